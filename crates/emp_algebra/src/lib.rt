@@ -1,0 +1,16 @@
+//! Exact algebra of whole numbers: identities by a normaliser, products and the order, lists as vectors.
+//!
+//! The crate has no code that runs. Its functions state the laws that the layers above cite.
+#![tactic(auto)]
+
+ghost use Rattle.emp_algebra.specs.Laws.{DotIsLinear, OrderKeepsProducts};
+
+/// The dot product is linear.
+pub fn dot_is_linear()
+    ensures { DotIsLinear }
+{}
+
+/// The order and equality go with products by a number above 0.
+pub fn order_keeps_products()
+    ensures { OrderKeepsProducts }
+{}

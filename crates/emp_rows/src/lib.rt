@@ -1,0 +1,6 @@
+//! Rows of whole numbers, their dictionary, and the walk that decides whether all of them can be 0.
+#![tactic(auto)]
+
+pub mod affine;
+pub mod line;
+pub mod walk;
