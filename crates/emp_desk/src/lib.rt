@@ -1,0 +1,4 @@
+//! The trait of files and output, and desks in memory.
+#![tactic(auto)]
+
+pub mod desk;
