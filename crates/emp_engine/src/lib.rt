@@ -1,0 +1,4 @@
+//! The top call: what the program does with its words and a desk.
+#![tactic(auto)]
+
+pub mod outline;
