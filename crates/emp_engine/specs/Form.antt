@@ -7,8 +7,10 @@ use Rattle.emp_engine.specs.declared.outline.Term.{Term}
 use Rattle.emp_engine.specs.declared.outline.Product.{Product}
 use Rattle.emp_engine.specs.declared.outline.Product.TheVariants.{Constant, Plain, Multiple}
 use Rattle.emp_engine.specs.declared.outline.Pair.{Pair}
-use Rattle.emp_engine.specs.declared.outline.Sign.{Sign}
-use Rattle.emp_engine.specs.declared.outline.Sign.TheVariants.{Semicolon, Comma, Slash, Dots, Plus, Minus, Times, NoRelation}
+use Rattle.emp_engine.specs.declared.token.Token.{Token}
+use Rattle.emp_engine.specs.declared.token.Token.TheVariants.{Word, Numeral, Sign as Mark}
+use Rattle.emp_engine.specs.declared.token.Sign.{Sign}
+use Rattle.emp_engine.specs.declared.token.Sign.TheVariants.{Semicolon, Comma, Slash, Dots, Plus, Minus, Times, NoRelation}
 
 -- ---- bytes
 abbrev pub is_between : ℕ → ℕ → ℕ → Bool
@@ -42,11 +44,6 @@ abbrev pub SameName : List ℕ → List ℕ → Type 0
 SameName a b = lower a ≡ lower b
 
 -- ---- tokens
-pub data Token : Type 0 where
-  word : List ℕ → Token
-  numeral : ℕ → Token
-  sign : Sign → Token
-
 abbrev pub BeginsWithLetter : List ℕ → Type 0
 BeginsWithLetter [] = ⊥
 BeginsWithLetter (b ∷ bs) = IsTrue (is_letter b)
@@ -80,9 +77,9 @@ SpellsSign Times bs = bs ≡ codes "*"
 SpellsSign NoRelation bs = SameName bs (codes "=n=")
 
 abbrev pub IsSpelling : Token → List ℕ → Type 0
-IsSpelling (word bs) piece = (piece ≡ bs) × IsWord bs
-IsSpelling (numeral n) piece = IsNumeral n piece
-IsSpelling (sign s) piece = SpellsSign s piece
+IsSpelling (Word bs) piece = (piece ≡ bs) × IsWord bs
+IsSpelling (Numeral n) piece = IsNumeral n piece
+IsSpelling (Mark s) piece = SpellsSign s piece
 
 abbrev pub BeginsWithNoWordByte : List ℕ → Type 0
 BeginsWithNoWordByte [] = Unit {0}
@@ -90,9 +87,9 @@ BeginsWithNoWordByte (b ∷ bs) = is_word_byte b ≡ false
 
 -- the piece was the longest: no letter, digit or `_` follows a name or a numeral
 abbrev pub EndsBefore : Token → List ℕ → Type 0
-EndsBefore (word bs) rest = BeginsWithNoWordByte rest
-EndsBefore (numeral n) rest = BeginsWithNoWordByte rest
-EndsBefore (sign s) rest = Unit {0}
+EndsBefore (Word bs) rest = BeginsWithNoWordByte rest
+EndsBefore (Numeral n) rest = BeginsWithNoWordByte rest
+EndsBefore (Mark s) rest = Unit {0}
 
 -- the text spells the tokens
 pub data Spells : List Token → List ℕ → Type 0 where
@@ -114,10 +111,10 @@ pub data Wanted : Type 0 where
 
 -- a name as it is declared; a name or keyword without case; a numeral by its value; a sign
 abbrev pub IsWanted : Wanted → Token → Type 0
-IsWanted (spelled a) (word b) = a ≡ b
-IsWanted (called a) (word b) = SameName a b
-IsWanted (number n) (numeral m) = n ≡ m
-IsWanted (symbol s) (sign t) = s ≡ t
+IsWanted (spelled a) (Word b) = a ≡ b
+IsWanted (called a) (Word b) = SameName a b
+IsWanted (number n) (Numeral m) = n ≡ m
+IsWanted (symbol s) (Mark t) = s ≡ t
 IsWanted w t = ⊥
 
 abbrev pub AllWanted : List Wanted → List Token → Type 0

@@ -37,18 +37,3 @@ pub struct Pair {
     pub equation: u32,
     pub variable: u32,
 }
-
-/// A sign of the first form.
-#[derive(Clone, Copy, Debug, PartialEq, Eq)]
-pub enum Sign {
-    Semicolon,
-    Comma,
-    Slash,
-    /// `..`
-    Dots,
-    Plus,
-    Minus,
-    Times,
-    /// `=n=`, also with a capital letter
-    NoRelation,
-}
