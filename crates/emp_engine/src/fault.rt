@@ -1,5 +1,6 @@
 //! Why two texts give no outline.
 ghost use Rattle.std.specs.Prelude.{◌≡◌};
+ghost use Rattle.emp_engine.specs.declared.fault.ReadFault.TheVariants.{NoMemory};
 
 use std::alloc::{AllocError, AllocFailed};
 
