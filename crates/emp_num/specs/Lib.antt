@@ -5,3 +5,4 @@ pub mod Content
 pub mod Gcd
 pub mod Ratio
 pub mod Point
+pub mod Whole

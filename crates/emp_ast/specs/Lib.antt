@@ -1,0 +1,4 @@
+pub mod Value
+pub mod Meets
+pub mod Blocks
+pub mod Solved
