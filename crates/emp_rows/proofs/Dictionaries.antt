@@ -1,6 +1,6 @@
 -- The dictionaries of the walk: what is so of each, and what an exchange keeps.
-use Rattle.std.proofs.Common.{◌≡◌, ◌≢◌, ◌↔◌, ◌⊎◌, inl, inr, ℕ, zero, suc, ◌+◌, ◌<◌, ◌≤◌, ℤ, pos, ◌+ℤ◌, ◌-ℤ◌, ◌*ℤ◌, ◌<ℤ◌, Bool, true, false, List, [], ◌∷◌, map, length, set, get_or, Option, Some, None, arith, refl, sym, ap, ap₂, subst, ◌∙◌, length-map, length-set, get_or-set_same}
-use Rattle.std.proofs.lemmas.List.{get_or-set_other, get_or-map, map-set}
+use Rattle.std.proofs.Common.{◌≡◌, ◌≢◌, ◌↔◌, ◌⊎◌, inl, inr, ℕ, zero, suc, ◌+◌, ◌<◌, ◌≤◌, ℤ, pos, ◌+ℤ◌, ◌-ℤ◌, ◌*ℤ◌, ◌<ℤ◌, Bool, true, false, List, [], ◌∷◌, map, length, set, get_or, Option, Some, None, arith, refl, sym, ap, ap₂, subst, ◌∙◌, length-set, get_or-set_same}
+use Rattle.std.proofs.lemmas.List.{get_or-set_other, get_or-map, map-set, length-map}
 use Rattle.emp_algebra.specs.Vector.{cell}
 use Rattle.emp_rows.specs.declared.line.Line.{Line}
 use Rattle.emp_rows.specs.declared.walk.Label.{Label}
@@ -174,7 +174,7 @@ holds_exchange base m k j t u d xs p x = (λ h i l. forth h i l (same_or_other i
     in_row = omega (arith, p.width k x.row_in, x.column_in)
 
     in_ws : j < length ws
-    in_ws = omega (arith, length-map (λ w. f w) t.columns, p.columns, x.column_in)
+    in_ws = omega (arith, length-map t.columns (λ w. f w), p.columns, x.column_in)
 
     column_value : cell ws j ≡ f (column_at t j)
     column_value = get_or-map (λ w. f w) t.columns j (Base 0) (pos 0) (omega (arith, p.columns, x.column_in))

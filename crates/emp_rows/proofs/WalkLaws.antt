@@ -1,8 +1,11 @@
 -- The laws of the walk: the point it ends with makes every row 0, and where it refutes there is none.
-use Rattle.std.proofs.Common.{◌≡◌, ◌↔◌, ◌⊎◌, inl, inr, ℕ, zero, suc, ◌+◌, ◌<◌, ◌≤◌, ℤ, pos, neg_ℤ, ◌+ℤ◌, ◌-ℤ◌, ◌*ℤ◌, ◌<ℤ◌, Bool, true, false, cond, not, ◌&&◌, List, [], ◌∷◌, All, map, length, get_or, Option, Some, None, arith, refl, sym, ap, ap₂, subst, ◌∙◌, length-map, eq-eqb, eqb-true}
+use Rattle.std.proofs.Common.{◌≡◌, ◌↔◌, ◌⊎◌, inl, inr, ℕ, zero, suc, ◌+◌, ◌<◌, ◌≤◌, ℤ, pos, neg_ℤ, ◌+ℤ◌, ◌-ℤ◌, ◌*ℤ◌, ◌<ℤ◌, Bool, true, false, cond, not, ◌&&◌, List, [], ◌∷◌, All, map, length, get_or, Option, Some, None, arith, refl, sym, ap, ap₂, subst, ◌∙◌}
 use Rattle.std.specs.Prelude.{nat_eq}
 use Rattle.std.proofs.Math.ListN.{get_or-map}
+use Rattle.std.proofs.lemmas.List.{length-map, get_or-map as get_or-map_within}
+use Rattle.std.proofs.lemmas.Bool.{eq-eqb, eqb-true}
 use Rattle.std.proofs.lemmas.List.Elements.{All-from_get_or}
+use Rattle.std.proofs.lemmas.Int.{ints}
 use lib.IntN.{zero-*ℤ, *ℤ-zero}
 use Rattle.emp_algebra.specs.Vector.{cell, dot}
 use Rattle.emp_algebra.proofs.Ring.{var, lit, neg, ◌⊕◌, ◌⊖◌, ◌⊗◌, by_ring}
@@ -36,7 +39,7 @@ and_false false b e h = cc
 pub first_free-None : (at : ℕ) (ws : List Label) (cells : List ℤ) → first_free at ws cells ≡ None → (j : ℕ) → is_free (get_or ws j (Base 0)) ≡ true → j < length ws → cell cells j ≡ pos 0
 first_free-None at [] cells e j f h = absurd (omega arith)
 first_free-None at (w ∷ ws) [] e j f h = refl
-first_free-None at (w ∷ ws) (a ∷ cells) e = go (is_free w && not (is_zero a)) refl e (first_free-None (at + 1) ws cells)
+first_free-None at (w ∷ ws) (a ∷ cells) e j f h = go (is_free w && not (is_zero a)) refl e (first_free-None (at + 1) ws cells) j f h
   where
     go : (b : Bool) → is_free w && not (is_zero a) ≡ b → cond b (Some at) (first_free (at + 1) ws cells) ≡ None → (first_free (at + 1) ws cells ≡ None → (j : ℕ) → is_free (get_or ws j (Base 0)) ≡ true → j < length ws → cell cells j ≡ pos 0) → (j : ℕ) → is_free (get_or (w ∷ ws) j (Base 0)) ≡ true → j < length (w ∷ ws) → cell (a ∷ cells) j ≡ pos 0
     go true q r rest j f h = cc
@@ -152,3 +155,170 @@ walk_outcome base m d xs (suc left) k pivots t e p = choice (first_free 0 t.colu
     choice : (o : Option ℕ) → first_free 0 t.columns (line_at t k).cells ≡ o → Rest → Outcome base m d xs t (by_choice (walk_from left (k + 1)) k pivots t o)
     choice None q rest = test (is_zero (line_at t k).constant) refl (first_free-None 0 t.columns (line_at t k).cells q) rest
     choice (Some j) q rest = pivot j (first_free-Some 0 t.columns (line_at t k).cells j q) (pivoted t.lines k j) refl rest
+
+-- ---- the start
+abbrev no_affine : Affine
+no_affine = record { cells = []; constant = pos 0 }
+
+quantities_wait : (at n i : ℕ) → i < n → is_free (get_or (quantities_from at n) i (Base 0)) ≡ false
+quantities_wait at zero i h = absurd (omega arith)
+quantities_wait at (suc n) zero h = refl
+quantities_wait at (suc n) (suc i) h = quantities_wait (at + 1) n i (omega arith)
+
+length-quantities_from : (at n : ℕ) → length (quantities_from at n) ≡ n
+length-quantities_from at zero = refl
+length-quantities_from at (suc n) = ap suc (length-quantities_from (at + 1) n)
+
+length-bases_from : (at n : ℕ) → length (bases_from at n) ≡ n
+length-bases_from at zero = refl
+length-bases_from at (suc n) = ap suc (length-bases_from (at + 1) n)
+
+base_at : (at n j : ℕ) → j < n → get_or (bases_from at n) j (Base 0) ≡ Base (at + j)
+base_at at zero j h = absurd (omega arith)
+base_at at (suc n) zero h = ap Base (omega arith)
+base_at at (suc n) (suc j) h = base_at (at + 1) n j (omega arith) ∙ ap Base (omega arith)
+
+line_is : (base : ℕ) (rows : List Affine) (i : ℕ) → line_at (start base rows) i ≡ line_of (get_or rows i no_affine)
+line_is base rows i = get_or-map line_of rows i no_affine
+
+pub proper_start : (base : ℕ) (rows : List Affine) → All (λ r. length r.cells ≡ base) rows → Proper base (length rows) 0 (start base rows)
+proper_start base rows h = record {
+  lines = length-map rows line_of;
+  rows = length-quantities_from 0 (length rows);
+  columns = length-bases_from 0 base;
+  width = λ i l. ap (λ z. length z.cells) (line_is base rows i) ∙ h i no_affine l;
+  denom = λ i l. subst (λ z. pos 0 <ℤ z.denom) (sym (line_is base rows i)) (omega (arith, ints));
+  waiting = λ i z l. quantities_wait 0 (length rows) i l;
+  fixed = λ i l. absurd (omega arith);
+  own = λ j l e. base_at 0 base j l ∙ ap Base (omega arith);
+  inside = λ i b l e. none i b l e;
+  gone = λ i b l e. none i b l e;
+  once = λ i n b l k e f. none i b l e;
+}
+  where
+    none : {A : Type 0} → (i b : ℕ) → i < length rows → row_at (start base rows) i ≡ Base b → A
+    none i b l e = let f = quantities_wait 0 (length rows) i l in let g = ap is_free e in cc
+
+dot_nil : (r : List ℤ) → dot r [] ≡ pos 0
+dot_nil [] = refl
+dot_nil (a ∷ r) = refl
+
+-- the columns at the start stand for the point itself
+dot_bases : (f : Label → ℤ) (at n : ℕ) (r ys : List ℤ) → length r ≡ n → ((i : ℕ) → f (Base (at + i)) ≡ cell ys i) → dot r (map f (bases_from at n)) ≡ dot r ys
+dot_bases f at n [] ys e h = refl
+dot_bases f at zero (a ∷ r) ys e h = absurd (omega arith)
+dot_bases f at (suc n) (a ∷ r) [] e h =
+    ap₂ (λ y z. a *ℤ y +ℤ z) (ap (λ k. f (Base k)) (omega arith) ∙ h 0) (dot_bases f (at + 1) n r [] (omega arith) (λ i. ap (λ k. f (Base k)) (omega arith) ∙ h (suc i)) ∙ dot_nil r) ∙ by_ring (a ∷ []) (var 0 ⊗ lit (pos 0) ⊕ lit (pos 0)) (lit (pos 0)) refl
+dot_bases f at (suc n) (a ∷ r) (y ∷ ys) e h =
+    ap₂ (λ y z. a *ℤ y +ℤ z) (ap (λ k. f (Base k)) (omega arith) ∙ h 0) (dot_bases f (at + 1) n r ys (omega arith) (λ i. ap (λ k. f (Base k)) (omega arith) ∙ h (suc i)))
+
+-- line i at the start says that row i is 0
+defect_start : (base : ℕ) (rows : List Affine) (d : ℤ) (xs : List ℤ) (i : ℕ) → All (λ r. length r.cells ≡ base) rows → i < length rows → defect d (line_at (start base rows) i) (value_at xs (row_at (start base rows) i)) (map (value_at xs) (start base rows).columns) ≡ value_times (get_or rows i no_affine) d xs
+defect_start base rows d xs i h l =
+    let r : Affine = get_or rows i no_affine in
+    ap₂ (λ z v. defect d z v (map (value_at xs) (bases_from 0 base))) (line_is base rows i) (not_free xs (row_at (start base rows) i) (quantities_wait 0 (length rows) i l))
+    ∙ (ap (λ z. r.constant *ℤ d +ℤ z -ℤ pos 1 *ℤ pos 0) (dot_bases (value_at xs) 0 base r.cells xs (h i no_affine l) (λ n. ap (λ k. cell xs k) (omega arith)))
+    ∙ by_ring ((r.constant *ℤ d) ∷ dot r.cells xs ∷ []) (var 0 ⊕ var 1 ⊖ lit (pos 1) ⊗ lit (pos 0)) (var 0 ⊕ var 1) refl)
+
+pub vanish_holds : (base : ℕ) (rows : List Affine) (d : ℤ) (xs : List ℤ) → All (λ r. length r.cells ≡ base) rows → AllVanish rows d xs ↔ Holds (length rows) d xs (start base rows)
+vanish_holds base rows d xs h =
+    (λ v i l. defect_start base rows d xs i h l ∙ v i no_affine l,
+    λ v. All-from_get_or (λ r. value_times r d xs ≡ pos 0) rows no_affine (λ i l. sym (defect_start base rows d xs i h l) ∙ v i l))
+
+-- ---- the point at the end
+-- where base variable b is the label of row i and of no other, its value is read from line i
+value_in-found : (rs : List Label) (ls : List Line) (b i : ℕ) → i < length rs → i < length ls → get_or rs i (Base 0) ≡ Base b → ((n : ℕ) → n < length rs → get_or rs n (Base 0) ≡ Base b → n ≡ i) → value_in rs ls b ≡ ratio (get_or ls i no_line).constant (get_or ls i no_line).denom
+value_in-found [] ls b i h l e once = absurd (omega arith)
+value_in-found (r ∷ rs) [] b i h l e once = absurd (omega arith)
+value_in-found (Base c ∷ rs) (l ∷ ls) b zero h k e once =
+    let same : c ≡ b = cc in
+    let t : nat_eq c b ≡ true = eq-eqb c b same in
+    rw t refl
+value_in-found (Base c ∷ rs) (l ∷ ls) b (suc i) h k e once = go (nat_eq c b) refl (value_in-found rs ls b i (omega arith) (omega arith) e (λ n p q. omega (arith, once (suc n) (omega arith) q)))
+  where
+    go : (t : Bool) → nat_eq c b ≡ t → value_in rs ls b ≡ ratio (get_or ls i no_line).constant (get_or ls i no_line).denom → cond t (ratio l.constant l.denom) (value_in rs ls b) ≡ ratio (get_or ls i no_line).constant (get_or ls i no_line).denom
+    go true q rest = absurd (omega (arith, once 0 (omega arith) (ap Base (eqb-true c b q))))
+    go false q rest = rest
+value_in-found (Quantity q ∷ rs) (l ∷ ls) b zero h k e once = cc
+value_in-found (Quantity q ∷ rs) (l ∷ ls) b (suc i) h k e once = value_in-found rs ls b i (omega arith) (omega arith) e (λ n p r. omega (arith, once (suc n) (omega arith) r))
+
+value_in-missing : (rs : List Label) (ls : List Line) (b : ℕ) → ((n : ℕ) → n < length rs → get_or rs n (Base 0) ≡ Base b → ⊥) → value_in rs ls b ≡ ratio (pos 0) (pos 1)
+value_in-missing [] ls b none = refl
+value_in-missing (r ∷ rs) [] b none = refl
+value_in-missing (Base c ∷ rs) (l ∷ ls) b none = go (nat_eq c b) refl (value_in-missing rs ls b (λ n p. none (suc n) (omega arith)))
+  where
+    go : (t : Bool) → nat_eq c b ≡ t → value_in rs ls b ≡ ratio (pos 0) (pos 1) → cond t (ratio l.constant l.denom) (value_in rs ls b) ≡ ratio (pos 0) (pos 1)
+    go true q rest = absurd (none 0 (omega arith) (ap Base (eqb-true c b q)))
+    go false q rest = rest
+value_in-missing (Quantity q ∷ rs) (l ∷ ls) b none = value_in-missing rs ls b (λ n p. none (suc n) (omega arith))
+
+some_frac : (fs : List Frac) → 0 < length fs → Frac
+some_frac [] h = absurd (omega arith)
+some_frac (f ∷ fs) h = f
+
+-- the point's coordinate b is the value that the dictionary gives
+coordinate_is : (base : ℕ) (t : Dictionary) (fracs : List Frac) (p : Point) (b : ℕ) → ArePoint base t fracs → StandsFor fracs p → b < base → cell p.nums b *ℤ (value_in t.rows t.lines b).bottom ≡ (value_in t.rows t.lines b).top *ℤ p.den
+coordinate_is base t fracs p b a s h =
+    let first : Frac = some_frac fracs (omega (arith, a.count)) in
+    let f : Frac = get_or fracs b first in
+    let r : Ratio = value_in t.rows t.lines b in
+    let e : f.num *ℤ r.bottom ≡ r.top *ℤ f.den = a.values b first h in
+    let g : f.num *ℤ p.den ≡ cell p.nums b *ℤ f.den = s.same b first (omega (arith, a.count)) in
+    cancel_right (cell p.nums b *ℤ r.bottom) (r.top *ℤ p.den) f.den
+    (by_ring (cell p.nums b ∷ r.bottom ∷ f.den ∷ []) (var 0 ⊗ var 1 ⊗ var 2) (var 0 ⊗ var 2 ⊗ var 1) refl
+    ∙ (ap (λ z. z *ℤ r.bottom) (sym g)
+    ∙ (by_ring (f.num ∷ p.den ∷ r.bottom ∷ []) (var 0 ⊗ var 1 ⊗ var 2) (var 0 ⊗ var 2 ⊗ var 1) refl
+    ∙ (ap (λ z. z *ℤ p.den) e
+    ∙ by_ring (r.top ∷ f.den ∷ p.den ∷ []) (var 0 ⊗ var 1 ⊗ var 2) (var 0 ⊗ var 2 ⊗ var 1) refl))))
+    f.positive
+
+-- each column is 0 at the point
+column_none : (base m : ℕ) (t : Dictionary) (fracs : List Frac) (p : Point) (j : ℕ) → Proper base m m t → ArePoint base t fracs → StandsFor fracs p → j < base → value_at p.nums (column_at t j) ≡ pos 0
+column_none base m t fracs p j q a s h = go (column_at t j) refl
+  where
+    go : (w : Label) → column_at t j ≡ w → value_at p.nums w ≡ pos 0
+    go (Quantity n) e = refl
+    go (Base b) e =
+        let own : column_at t j ≡ Base j = q.own j h (ap is_free e) in
+        let same : b ≡ j = cc in
+        let none : value_in t.rows t.lines j ≡ ratio (pos 0) (pos 1) = value_in-missing t.rows t.lines j (λ n l r. let f = q.gone n j (omega (arith, q.rows)) r in let g = ap is_free e in cc) in
+        ap (λ n. cell p.nums n) same
+        ∙ (by_ring (cell p.nums j ∷ []) (var 0) (var 0 ⊗ lit (pos 1)) refl
+        ∙ (subst (λ z. cell p.nums j *ℤ z.bottom ≡ z.top *ℤ p.den) none (coordinate_is base t fracs p j a s h) ∙ zero-*ℤ p.den))
+
+holds_at_point : (base m : ℕ) (t : Dictionary) (fracs : List Frac) (p : Point) → Proper base m m t → ArePoint base t fracs → StandsFor fracs p → Holds m p.den p.nums t
+holds_at_point base m t fracs p q a s i h = go (row_at t i) refl
+  where
+    l : Line
+    l = line_at t i
+
+    dot_is : dot l.cells (map (value_at p.nums) t.columns) ≡ pos 0
+    dot_is = dot_none l.cells (map (value_at p.nums) t.columns) (λ j k.
+      let in_base : j < base = omega (arith, q.columns, length-map t.columns (value_at p.nums)) in
+      ap (λ z. cell l.cells j *ℤ z) (get_or-map_within (value_at p.nums) t.columns j (Base 0) (pos 0) (omega (arith, q.columns)) ∙ column_none base m t fracs p j q a s in_base) ∙ *ℤ-zero (cell l.cells j))
+
+    go : (w : Label) → row_at t i ≡ w → defect p.den l (value_at p.nums (row_at t i)) (map (value_at p.nums) t.columns) ≡ pos 0
+    go (Quantity n) e =
+        let f = q.fixed i h h (ap is_free e) in
+        ap₂ (λ z y. l.constant *ℤ p.den +ℤ y -ℤ l.denom *ℤ value_at p.nums z) e dot_is
+        ∙ (ap (λ z. z *ℤ p.den +ℤ pos 0 -ℤ l.denom *ℤ pos 0) f.constant
+        ∙ by_ring (p.den ∷ l.denom ∷ []) (lit (pos 0) ⊗ var 0 ⊕ lit (pos 0) ⊖ var 1 ⊗ lit (pos 0)) (lit (pos 0)) refl)
+    go (Base b) e =
+        let found : value_in t.rows t.lines b ≡ ratio l.constant l.denom = value_in-found t.rows t.lines b i (omega (arith, q.rows)) (omega (arith, q.lines)) e (λ n k r. q.once n i b (omega (arith, q.rows)) h r e) in
+        let c : cell p.nums b *ℤ l.denom ≡ l.constant *ℤ p.den = subst (λ z. cell p.nums b *ℤ z.bottom ≡ z.top *ℤ p.den) found (coordinate_is base t fracs p b a s (q.inside i b h e)) in
+        ap₂ (λ z y. l.constant *ℤ p.den +ℤ y -ℤ l.denom *ℤ value_at p.nums z) e dot_is
+        ∙ (ap (λ z. z +ℤ pos 0 -ℤ l.denom *ℤ cell p.nums b) (sym c)
+        ∙ by_ring (cell p.nums b ∷ l.denom ∷ []) (var 0 ⊗ var 1 ⊕ lit (pos 0) ⊖ var 1 ⊗ var 0) (lit (pos 0)) refl)
+
+-- ---- the laws
+-- the point that the walk ends with makes every row 0
+pub walk_vanishes : (base : ℕ) (rows : List Affine) (n : ℕ) (t : Dictionary) (fracs : List Frac) (p : Point) → All (λ r. length r.cells ≡ base) rows → walk_of base rows ≡ solved n t → ArePoint base t fracs → StandsFor fracs p → AllVanish rows p.den p.nums
+walk_vanishes base rows n t fracs p h e a s =
+    let o = subst (λ z. Outcome base (length rows) p.den p.nums (start base rows) z) e (walk_outcome base (length rows) p.den p.nums (length rows) 0 0 (start base rows) (omega arith) (proper_start base rows h)) in
+    (vanish_holds base rows p.den p.nums h).1 (o.1 (holds_at_point base (length rows) t fracs p o.0 a s))
+
+-- where the walk refutes, no point makes every row 0
+pub walk_refutes : (base : ℕ) (rows : List Affine) (n : ℕ) (fs : List ℤ) (den : ℤ) (xs : List ℤ) → All (λ r. length r.cells ≡ base) rows → walk_of base rows ≡ refuted n fs → pos 0 <ℤ den → AllVanish rows den xs → ⊥
+walk_refutes base rows n fs den xs h e den_pos v =
+    let o = subst (λ z. Outcome base (length rows) den xs (start base rows) z) e (walk_outcome base (length rows) den xs (length rows) 0 0 (start base rows) (omega arith) (proper_start base rows h)) in
+    o den_pos ((vanish_holds base rows den xs h).0 v)
