@@ -1,5 +1,5 @@
 -- The greatest common divisor as a function divides what it is taken of.
-use Rattle.std.proofs.Common.{◌≡◌, ℕ, zero, suc, ◌+◌, ◌%◌, ◌<◌, arith, refl, ℤ, List, [], ◌∷◌, All, unsigned_abs, mod-lt}
+use Rattle.std.proofs.Common.{ℕ, zero, suc, ◌%◌, ◌<◌, arith, refl, ℤ, List, [], ◌∷◌, All, unsigned_abs, mod-lt}
 use Prim.Native.Nat.{◌∣◌}
 use Rattle.std.specs.Int.{IsGcd}
 use Rattle.std.proofs.lemmas.Nat.Gcd.{dvd_refl, dvd_trans, IsGcd-from_zero, IsGcd-from_mod}

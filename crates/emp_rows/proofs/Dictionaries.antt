@@ -1,5 +1,5 @@
 -- The dictionaries of the walk: what is so of each, and what an exchange keeps.
-use Rattle.std.proofs.Common.{◌≡◌, ◌≢◌, ◌↔◌, ◌⊎◌, inl, inr, ℕ, zero, suc, ◌+◌, ◌<◌, ◌≤◌, ℤ, pos, ◌+ℤ◌, ◌-ℤ◌, ◌*ℤ◌, ◌<ℤ◌, Bool, true, false, List, [], ◌∷◌, map, length, set, get_or, Option, Some, None, arith, refl, sym, ap, ap₂, subst, ◌∙◌, length-set, get_or-set_same}
+use Rattle.std.proofs.Common.{◌≡◌, ◌≢◌, ◌↔◌, ◌⊎◌, inl, inr, ℕ, ◌+◌, ◌<◌, ◌≤◌, ℤ, pos, ◌<ℤ◌, true, false, List, map, length, set, get_or, Some, arith, sym, ap, ap₂, subst, ◌∙◌, length-set, get_or-set_same}
 use Rattle.std.proofs.lemmas.List.{get_or-set_other, get_or-map, map-set, length-map}
 use Rattle.emp_algebra.specs.Vector.{cell}
 use Rattle.emp_rows.specs.declared.line.Line.{Line}
@@ -82,7 +82,7 @@ exchange_is base m k j t ls p row_in column_in free other e =
       row = get_or-set_same t.rows k (column_at t j) (Base 0) (omega (arith, p.rows));
       column = get_or-set_same t.columns j (row_at t k) (Base 0) (omega (arith, p.columns));
       lines_rest = λ i h n.
-        moved_is head (line_at t i) (get_or ls i no_line) j (abs_pos (cell (line_at t k).cells j) other) (p.denom i h) (w ∙ sym (p.width i h)) (omega (arith, p.width i h)) (v.others i (omega arith) (λ q. n (omega arith)));
+          moved_is head (line_at t i) (get_or ls i no_line) j (abs_pos (cell (line_at t k).cells j) other) (p.denom i h) (w ∙ sym (p.width i h)) (omega (arith, p.width i h)) (v.others i (omega arith) (λ q. n (omega arith)));
       rows_rest = λ i n. get_or-set_other t.rows k i (column_at t j) (Base 0) n;
       columns_rest = λ h n. get_or-set_other t.columns j h (row_at t k) (Base 0) n;
       values = λ f. map-set f t.columns j (row_at t k);

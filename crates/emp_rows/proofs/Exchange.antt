@@ -1,18 +1,16 @@
 -- What an exchange keeps of a line: how far the line is from holding, up to a factor that is not 0.
-use Rattle.std.proofs.Common.{◌≡◌, ℕ, zero, suc, ◌+◌, ◌<◌, ℤ, pos, negsuc, neg_ℤ, ◌+ℤ◌, ◌-ℤ◌, ◌*ℤ◌, ◌<ℤ◌, Bool, true, false, cond, List, [], ◌∷◌, All, length, set, get_or, Option, Some, None, unsigned_abs, int_div, arith, refl, sym, ap, ap₂, subst, ◌∙◌, get_or-set_same, length-set}
+use Rattle.std.proofs.Common.{◌≡◌, ℕ, zero, suc, ◌<◌, ℤ, pos, negsuc, neg_ℤ, ◌+ℤ◌, ◌-ℤ◌, ◌*ℤ◌, ◌<ℤ◌, true, false, List, [], ◌∷◌, All, length, set, unsigned_abs, int_div, arith, refl, sym, ap, ap₂, ◌∙◌, get_or-set_same, length-set}
 use Rattle.std.proofs.lemmas.Int.{ints}
 use Rattle.std.proofs.lemmas.List.Elements.{All-head, All-tail}
 use Prim.Native.Nat.{◌∣◌}
 use Rattle.emp_algebra.specs.Vector.{cell, dot, scale, add_rows}
 use Rattle.emp_algebra.proofs.Ring.{var, lit, neg, ◌⊕◌, ◌⊖◌, ◌⊗◌, by_ring}
-use Rattle.emp_algebra.proofs.Laws.{mul_pos}
-use Rattle.emp_algebra.proofs.Order.{linear, cancel_right}
 use Rattle.emp_algebra.proofs.Vectors.{dot-scale, dot-add_rows, dot-set_cell, dot-set_coordinate, length-scale, cell-scale}
 use Rattle.emp_num.specs.Gcd.{gcd_of, content_of}
 use Rattle.emp_num.proofs.Gcds.{quot_exact, divisor_pos, positive_from_product}
-use Rattle.emp_num.proofs.GcdLaws.{gcd_of_is, Divides, content_divides}
+use Rattle.emp_num.proofs.GcdLaws.{gcd_of_is, content_divides}
 use Rattle.emp_rows.specs.declared.line.Line.{Line}
-use Rattle.emp_rows.specs.Pivot.{sign, is_zero, quotients, line_content, reduced, turned_by, turned, Factors, factors, combined, combination_wide, moved}
+use Rattle.emp_rows.specs.Pivot.{sign, is_zero, quotients, line_content, reduced, turned_by, turned, Factors, factors, combined}
 
 -- what is missing for the line to hold, where d stands for 1, v for the line's own quantity and ws for those of the columns
 abbrev pub defect : ℤ → Line → ℤ → List ℤ → ℤ
@@ -132,6 +130,6 @@ reduced_is l h =
       denom = positive_from_product (reduced l).denom g l.denom e p h;
       width = length-quotients l.cells g;
       same = λ d v ws.
-        by_ring ((reduced l).constant ∷ d ∷ dot (reduced l).cells ws ∷ (reduced l).denom ∷ v ∷ g ∷ []) ((var 0 ⊗ var 1 ⊕ var 2 ⊖ var 3 ⊗ var 4) ⊗ var 5) (var 0 ⊗ var 5 ⊗ var 1 ⊕ var 2 ⊗ var 5 ⊖ var 3 ⊗ var 5 ⊗ var 4) refl
-        ∙ (ap₂ (λ x y. x *ℤ d +ℤ dot (reduced l).cells ws *ℤ g -ℤ y *ℤ v) f e ∙ ap (λ x. l.constant *ℤ d +ℤ x -ℤ l.denom *ℤ v) (dot-quotients g l.cells ws (All-tail In l.constant l.cells rest)));
+          by_ring ((reduced l).constant ∷ d ∷ dot (reduced l).cells ws ∷ (reduced l).denom ∷ v ∷ g ∷ []) ((var 0 ⊗ var 1 ⊕ var 2 ⊖ var 3 ⊗ var 4) ⊗ var 5) (var 0 ⊗ var 5 ⊗ var 1 ⊕ var 2 ⊗ var 5 ⊖ var 3 ⊗ var 5 ⊗ var 4) refl
+          ∙ (ap₂ (λ x y. x *ℤ d +ℤ dot (reduced l).cells ws *ℤ g -ℤ y *ℤ v) f e ∙ ap (λ x. l.constant *ℤ d +ℤ x -ℤ l.denom *ℤ v) (dot-quotients g l.cells ws (All-tail In l.constant l.cells rest)));
     }

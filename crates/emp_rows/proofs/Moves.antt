@@ -1,17 +1,16 @@
 -- The lines after a pivot hold where the lines before it do.
-use Rattle.std.proofs.Common.{◌≡◌, ◌≢◌, ◌↔◌, ◌⊎◌, inl, inr, ℕ, zero, suc, ◌+◌, ◌<◌, ℤ, pos, neg_ℤ, ◌+ℤ◌, ◌-ℤ◌, ◌*ℤ◌, ◌<ℤ◌, Bool, true, false, cond, List, [], ◌∷◌, length, set, get_or, Option, Some, None, unsigned_abs, arith, refl, sym, ap, ap₂, subst, ◌∙◌, length-set}
+use Rattle.std.proofs.Common.{◌≡◌, ◌≢◌, ◌↔◌, ℕ, zero, suc, ◌+◌, ◌<◌, ℤ, pos, neg_ℤ, ◌+ℤ◌, ◌-ℤ◌, ◌*ℤ◌, ◌<ℤ◌, Bool, true, false, cond, List, [], ◌∷◌, length, set, get_or, Option, Some, None, arith, refl, sym, ap, subst, ◌∙◌, length-set}
 use Rattle.std.specs.Prelude.{nat_eq}
-use Rattle.std.proofs.lemmas.Int.{ints}
 use Rattle.std.proofs.lemmas.Bool.{eqb-true, eq-eqb}
 use lib.IntN.{zero-*ℤ, *ℤ-zero}
 use Rattle.emp_algebra.specs.Vector.{cell, dot, scale, add_rows}
-use Rattle.emp_algebra.proofs.Ring.{var, lit, neg, ◌⊕◌, ◌⊖◌, ◌⊗◌, by_ring}
+use Rattle.emp_algebra.proofs.Ring.{var, lit, neg, ◌⊕◌, ◌⊗◌, by_ring}
 use Rattle.emp_algebra.proofs.Laws.{mul_pos}
-use Rattle.emp_algebra.proofs.Order.{linear, cancel_right}
+use Rattle.emp_algebra.proofs.Order.{cancel_right}
 use Rattle.emp_algebra.proofs.Vectors.{dot-set_coordinate, length-scale}
 use Rattle.emp_rows.specs.declared.line.Line.{Line}
 use Rattle.emp_rows.specs.Pivot.{sign, is_zero, line_content, reduced, turned, factors, combined, combination_wide, moved, both_there, pivoted_from, no_line}
-use Rattle.emp_rows.proofs.Exchange.{defect, sign_square, is_zero-true, turned_is, length-turned, combined_is, Meet, factors_meet, Reduces, reduced_is}
+use Rattle.emp_rows.proofs.Exchange.{defect, sign_square, is_zero-true, turned_is, combined_is, factors_meet, reduced_is}
 
 -- a product is 0 where a factor is, and where it is 0 beside a factor above 0, the other one is
 zero_factor : (x g : ℤ) → x *ℤ g ≡ pos 0 → pos 0 <ℤ g → x ≡ pos 0
@@ -65,14 +64,15 @@ moves_combined t j l head_pos p widths in_row other =
     let c : Line = combined f l t j in
     let r = reduced_is c (mul_pos f.own l.denom meet.own p) in
     let e : (d u v : ℤ) (ws : List ℤ) → j < length ws → defect d t (cell ws j) (set ws j v) ≡ pos 0 → defect d (reduced c) u (set ws j v) *ℤ line_content c ≡ f.own *ℤ defect d l u ws = λ d u v ws in_ws h.
-      r.same d u (set ws j v) ∙ (combined_is d f l t u v ws j meet.same in_row in_ws ∙ (ap (λ z. f.own *ℤ defect d l u ws +ℤ f.other *ℤ z) h ∙ by_ring ((f.own *ℤ defect d l u ws) ∷ f.other ∷ []) (var 0 ⊕ var 1 ⊗ lit (pos 0)) (var 0) refl)) in
+    r.same d u (set ws j v) ∙ (combined_is d f l t u v ws j meet.same in_row in_ws ∙ (ap (λ z. f.own *ℤ defect d l u ws +ℤ f.other *ℤ z) h ∙ by_ring ((f.own *ℤ defect d l u ws) ∷ f.other ∷ []) (var 0 ⊕ var 1 ⊗ lit (pos 0)) (var 0) refl)) in
     record {
       width = r.width ∙ (length-add_rows (scale f.own (set l.cells j (pos 0))) (scale f.other t.cells) (length-scale f.other t.cells ∙ (widths ∙ sym (length-scale f.own (set l.cells j (pos 0)) ∙ length-set l.cells j (pos 0)))) ∙ (length-scale f.own (set l.cells j (pos 0)) ∙ length-set l.cells j (pos 0)));
       denom = r.denom;
       still = λ z. absurd (let h = ap is_zero z in cc);
-      same = λ d u v ws in_ws h.
-        (λ z. zero_factor (defect d (reduced c) u (set ws j v)) (line_content c) (e d u v ws in_ws h ∙ (ap (λ x. f.own *ℤ x) z ∙ *ℤ-zero f.own)) r.content,
-        λ z. zero_factor (defect d l u ws) f.own (by_ring (defect d l u ws ∷ f.own ∷ []) (var 0 ⊗ var 1) (var 1 ⊗ var 0) refl ∙ (sym (e d u v ws in_ws h) ∙ (ap (λ x. x *ℤ line_content c) z ∙ zero-*ℤ (line_content c)))) meet.own);
+      same = λ d u v ws in_ws h. (
+        λ z. zero_factor (defect d (reduced c) u (set ws j v)) (line_content c) (e d u v ws in_ws h ∙ (ap (λ x. f.own *ℤ x) z ∙ *ℤ-zero f.own)) r.content,
+        λ z. zero_factor (defect d l u ws) f.own (by_ring (defect d l u ws ∷ f.own ∷ []) (var 0 ⊗ var 1) (var 1 ⊗ var 0) refl ∙ (sym (e d u v ws in_ws h) ∙ (ap (λ x. x *ℤ line_content c) z ∙ zero-*ℤ (line_content c)))) meet.own,
+      );
     }
 
 pub moved_is : (t l k : Line) (j : ℕ) → pos 0 <ℤ t.denom → pos 0 <ℤ l.denom → length t.cells ≡ length l.cells → j < length l.cells → moved t j l ≡ Some k → Moves t j l k

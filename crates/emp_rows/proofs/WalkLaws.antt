@@ -1,5 +1,5 @@
 -- The laws of the walk: the point it ends with makes every row 0, and where it refutes there is none.
-use Rattle.std.proofs.Common.{◌≡◌, ◌↔◌, ◌⊎◌, inl, inr, ℕ, zero, suc, ◌+◌, ◌<◌, ◌≤◌, ℤ, pos, neg_ℤ, ◌+ℤ◌, ◌-ℤ◌, ◌*ℤ◌, ◌<ℤ◌, Bool, true, false, cond, not, ◌&&◌, List, [], ◌∷◌, All, map, length, get_or, Option, Some, None, arith, refl, sym, ap, ap₂, subst, ◌∙◌}
+use Rattle.std.proofs.Common.{◌≡◌, ◌↔◌, ◌⊎◌, inl, inr, ℕ, zero, suc, ◌+◌, ◌<◌, ℤ, pos, ◌+ℤ◌, ◌-ℤ◌, ◌*ℤ◌, ◌<ℤ◌, Bool, true, false, cond, not, ◌&&◌, List, [], ◌∷◌, All, map, length, get_or, Option, Some, None, arith, refl, sym, ap, ap₂, subst, ◌∙◌}
 use Rattle.std.specs.Prelude.{nat_eq}
 use Rattle.std.proofs.Math.ListN.{get_or-map}
 use Rattle.std.proofs.lemmas.List.{length-map, get_or-map as get_or-map_within}
@@ -8,10 +8,9 @@ use Rattle.std.proofs.lemmas.List.Elements.{All-from_get_or}
 use Rattle.std.proofs.lemmas.Int.{ints}
 use lib.IntN.{zero-*ℤ, *ℤ-zero}
 use Rattle.emp_algebra.specs.Vector.{cell, dot}
-use Rattle.emp_algebra.proofs.Ring.{var, lit, neg, ◌⊕◌, ◌⊖◌, ◌⊗◌, by_ring}
-use Rattle.emp_algebra.proofs.Order.{linear, cancel_right}
+use Rattle.emp_algebra.proofs.Ring.{var, lit, ◌⊕◌, ◌⊖◌, ◌⊗◌, by_ring}
+use Rattle.emp_algebra.proofs.Order.{cancel_right}
 use Rattle.emp_num.specs.Ratio.{Ratio, ratio}
-use Rattle.emp_num.specs.FracSpec.{IsQuotient}
 use Rattle.emp_num.specs.Point.{Point, StandsFor}
 use Rattle.emp_num.specs.declared.frac.Frac.{Frac}
 use Rattle.emp_rows.specs.declared.affine.Affine.{Affine}
@@ -22,7 +21,7 @@ use Rattle.emp_rows.specs.Affine.{value_times, AllVanish}
 use Rattle.emp_rows.specs.Pivot.{is_zero, no_line, pivoted}
 use Rattle.emp_rows.specs.Walk.{Dictionary, Decision, solved, refuted, too_wide, is_free, first_free, line_at, exchanged, deciding_factors, by_pivot, by_choice, walk_from, line_of, bases_from, quantities_from, start, walk_of, value_in, ArePoint}
 use Rattle.emp_rows.proofs.Exchange.{defect, is_zero-true}
-use Rattle.emp_rows.proofs.Dictionaries.{row_at, column_at, IsFixed, Proper, value_at, Holds, Exchange, exchange_is, proper_exchange, holds_exchange}
+use Rattle.emp_rows.proofs.Dictionaries.{row_at, column_at, IsFixed, Proper, value_at, Holds, exchange_is, proper_exchange, holds_exchange}
 
 -- ---- the choice of a column
 and_true : (a b : Bool) → a && not b ≡ true → (a ≡ true) × (b ≡ false)
@@ -221,9 +220,10 @@ defect_start base rows d xs i h l =
     ∙ by_ring ((r.constant *ℤ d) ∷ dot r.cells xs ∷ []) (var 0 ⊕ var 1 ⊖ lit (pos 1) ⊗ lit (pos 0)) (var 0 ⊕ var 1) refl)
 
 pub vanish_holds : (base : ℕ) (rows : List Affine) (d : ℤ) (xs : List ℤ) → All (λ r. length r.cells ≡ base) rows → AllVanish rows d xs ↔ Holds (length rows) d xs (start base rows)
-vanish_holds base rows d xs h =
-    (λ v i l. defect_start base rows d xs i h l ∙ v i no_affine l,
-    λ v. All-from_get_or (λ r. value_times r d xs ≡ pos 0) rows no_affine (λ i l. sym (defect_start base rows d xs i h l) ∙ v i l))
+vanish_holds base rows d xs h = (
+  λ v i l. defect_start base rows d xs i h l ∙ v i no_affine l,
+  λ v. All-from_get_or (λ r. value_times r d xs ≡ pos 0) rows no_affine (λ i l. sym (defect_start base rows d xs i h l) ∙ v i l),
+)
 
 -- ---- the point at the end
 -- where base variable b is the label of row i and of no other, its value is read from line i
@@ -294,8 +294,8 @@ holds_at_point base m t fracs p q a s i h = go (row_at t i) refl
 
     dot_is : dot l.cells (map (value_at p.nums) t.columns) ≡ pos 0
     dot_is = dot_none l.cells (map (value_at p.nums) t.columns) (λ j k.
-      let in_base : j < base = omega (arith, q.columns, length-map t.columns (value_at p.nums)) in
-      ap (λ z. cell l.cells j *ℤ z) (get_or-map_within (value_at p.nums) t.columns j (Base 0) (pos 0) (omega (arith, q.columns)) ∙ column_none base m t fracs p j q a s in_base) ∙ *ℤ-zero (cell l.cells j))
+        let in_base : j < base = omega (arith, q.columns, length-map t.columns (value_at p.nums)) in
+        ap (λ z. cell l.cells j *ℤ z) (get_or-map_within (value_at p.nums) t.columns j (Base 0) (pos 0) (omega (arith, q.columns)) ∙ column_none base m t fracs p j q a s in_base) ∙ *ℤ-zero (cell l.cells j))
 
     go : (w : Label) → row_at t i ≡ w → defect p.den l (value_at p.nums (row_at t i)) (map (value_at p.nums) t.columns) ≡ pos 0
     go (Quantity n) e =
