@@ -1,0 +1,4 @@
+pub mod Exchange
+pub mod Moves
+pub mod Dictionaries
+pub mod WalkLaws
