@@ -1,6 +1,6 @@
 -- The value of a sum's expression at a point is that of its coefficients.
 use Rattle.std.proofs.Common.{◌≡◌, ℕ, zero, suc, ◌+◌, ◌-◌, ◌<◌, ◌≤◌, ◌^◌, ℤ, pos, neg_ℤ, ◌+ℤ◌, ◌-ℤ◌, ◌*ℤ◌, ◌<ℤ◌, Bool, true, false, nat_lt, List, [], ◌∷◌, ◌++◌, fold, length, get_or, replicate, Option, Some, None, option_map, arith, refl, sym, ap, ap₂, subst, subst₂, ◌∙◌, zero-add, append_assoc, length-append, lt-ltb, All}
-use Rattle.std.proofs.lemmas.List.{get_or_append_left, append-nil}
+use Rattle.std.proofs.lemmas.List.{get_or_append_left, get_or-append-add, length-replicate, length-set}
 use Rattle.std.proofs.lemmas.List.Sums.{fold-append}
 use Rattle.std.proofs.lemmas.List.Elements.{All-head, All-tail}
 use Rattle.std.proofs.Math.Seq.{get_or-append_seam}
@@ -197,6 +197,10 @@ module _ (p : Point) where
       subst (λ v. EndsAt (sum_value v ts) (sum_nodes (t ∷ ts))) (sym (zero_plus (signed_value t.negative (product_value p.den p.nums t.product)))) (terms_end (lead_nodes t.negative (product_nodes 0 t.product)) (signed_value t.negative (product_value p.den p.nums t.product)) ts (All-tail (λ t. product_number t.product ≤ 10 ^ 18) t ts b) first)
 
 -- ---- the coefficients
+All-split : (P : ℕ → Type 0) (xs ys : List ℕ) → All P (xs ++ ys) → All P xs × All P ys
+All-split P xs ys h =
+    ((λ k d l. subst P (get_or_append_left xs ys d k l) (h k d (omega (arith, length-append xs ys)))), (λ k d l. subst P (get_or-append-add xs ys k d) (h (length xs + k) d (omega (arith, length-append xs ys)))))
+
 dot-raised : (cells xs : List ℤ) (v : ℕ) (k : ℤ) → v < length cells → dot (raised cells v k) xs ≡ dot cells xs +ℤ k *ℤ cell xs v
 dot-raised cells xs v k h =
     dot-set_cell cells xs v (cell cells v +ℤ k) h ∙ by_ring (dot cells xs ∷ cell cells v ∷ k ∷ cell xs v ∷ []) (var 0 ⊕ (var 1 ⊕ var 2 ⊖ var 1) ⊗ var 3) (var 0 ⊕ var 2 ⊗ var 3) refl
@@ -223,3 +227,36 @@ product_adds d xs minus (Multiple n v) c cells h =
     ap (λ z. (c +ℤ pos 0) *ℤ d +ℤ z) (dot-raised cells xs v (signed minus n) (All-head (λ v. v < length cells) v [] h))
     ∙ by_ring (c ∷ d ∷ dot cells xs ∷ (signed minus n *ℤ cell xs v) ∷ []) ((var 0 ⊕ lit (pos 0)) ⊗ var 1 ⊕ (var 2 ⊕ var 3)) (var 0 ⊗ var 1 ⊕ var 2 ⊕ var 3) refl
     ∙ ap (λ z. affine_value d xs c cells +ℤ z) (signed-times minus n (cell xs v))
+
+length-raised : (cells : List ℤ) (v : ℕ) (k : ℤ) → length (raised cells v k) ≡ length cells
+length-raised cells v k = length-set cells v (cell cells v +ℤ k)
+
+length-product_cells : (minus : Bool) (cells : List ℤ) (t : Product) → length (product_cells minus cells t) ≡ length cells
+length-product_cells minus cells (Constant n) = refl
+length-product_cells minus cells (Plain v) = length-raised cells v (signed minus 1)
+length-product_cells minus cells (Multiple n v) = length-raised cells v (signed minus n)
+
+abbrev add_term : List ℤ → Term → List ℤ
+add_term cells t = product_cells t.negative cells t.product
+
+abbrev add_constant : ℤ → Term → ℤ
+add_constant c t = c +ℤ product_constant t.negative t.product
+
+terms_add : (p : Point) (ts : List Term) (c : ℤ) (cells : List ℤ) → All (λ v. v < length cells) (sum_variables ts) → affine_value p.den p.nums (fold add_constant c ts) (fold add_term cells ts) ≡ sum_value p (affine_value p.den p.nums c cells) ts
+terms_add p [] c cells h = refl
+terms_add p (t ∷ ts) c cells h =
+    let split = All-split (λ v. v < length cells) (product_variables t.product) (sum_variables ts) h in
+    let rest : All (λ v. v < length (add_term cells t)) (sum_variables ts) = subst (λ n. All (λ v. v < n) (sum_variables ts)) (sym (length-product_cells t.negative cells t.product)) split.1 in
+    terms_add p ts (add_constant c t) (add_term cells t) rest ∙ ap (λ v. sum_value p v ts) (product_adds p.den p.nums t.negative t.product c cells split.0)
+
+dot-zeros_list : (n : ℕ) (xs : List ℤ) → dot (replicate n (pos 0)) xs ≡ pos 0
+dot-zeros_list zero xs = refl
+dot-zeros_list (suc n) [] = refl
+dot-zeros_list (suc n) (x ∷ xs) = ap (λ z. pos 0 *ℤ x +ℤ z) (dot-zeros_list n xs) ∙ by_ring (x ∷ []) (lit (pos 0) ⊗ var 0 ⊕ lit (pos 0)) (lit (pos 0)) refl
+
+-- the coefficients of a sum have the sum of its terms' values
+pub coefficients_value : (p : Point) (count : ℕ) (ts : List Term) → All (λ v. v < count) (sum_variables ts) → affine_value p.den p.nums (sum_constant ts) (sum_cells count ts) ≡ sum_value p (pos 0) ts
+coefficients_value p count ts h =
+    let l : length (replicate count (pos 0)) ≡ count = length-replicate count (pos 0) in
+    let start : affine_value p.den p.nums (pos 0) (replicate count (pos 0)) ≡ pos 0 = ap (λ z. pos 0 *ℤ p.den +ℤ z) (dot-zeros_list count p.nums) ∙ by_ring (p.den ∷ []) (lit (pos 0) ⊗ var 0 ⊕ lit (pos 0)) (lit (pos 0)) refl in
+    terms_add p ts (pos 0) (replicate count (pos 0)) (subst (λ n. All (λ v. v < n) (sum_variables ts)) (sym l) h) ∙ ap (λ v. sum_value p v ts) start
