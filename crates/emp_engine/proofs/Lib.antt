@@ -1,1 +1,2 @@
 pub mod SumValue
+pub mod FirstLaw

@@ -2,3 +2,4 @@ pub mod Exchange
 pub mod Moves
 pub mod Dictionaries
 pub mod WalkLaws
+pub mod Primitive
