@@ -290,15 +290,15 @@ function_zero o sound p h k q at g =
     let within : v < length p.nums = subst (λ n. v < n) (sym count) (subst (λ (b : Pair). b.variable < length o.variables) is (sound.pairs.declared k q l).1) in
     let w : ℕ → Ratio = λ u. minus (coordinate r u) (coordinate p u) in
     let idle : (u : ℕ) → u ≢ v → (w u).top ≡ pos 0 = λ u n.
-        ap₂ (λ x y. x *ℤ p.den +ℤ neg_ℤ (cell p.nums u) *ℤ y) (moved-other p v f g.positive u n) (moved-den p v f g.positive)
-        ∙ by_ring (f.bottom ∷ cell p.nums u ∷ p.den ∷ []) (var 0 ⊗ var 1 ⊗ var 2 ⊕ neg (var 1) ⊗ (var 2 ⊗ var 0)) (lit (pos 0)) refl in
+    ap₂ (λ x y. x *ℤ p.den +ℤ neg_ℤ (cell p.nums u) *ℤ y) (moved-other p v f g.positive u n) (moved-den p v f g.positive)
+    ∙ by_ring (f.bottom ∷ cell p.nums u ∷ p.den ∷ []) (var 0 ⊗ var 1 ⊗ var 2 ⊕ neg (var 1) ⊗ (var 2 ⊗ var 0)) (lit (pos 0)) refl in
     let here : f.top *ℤ (w v).top ≡ neg_ℤ (f.top *ℤ f.top *ℤ (p.den *ℤ p.den)) =
-        ap₂ (λ x y. f.top *ℤ (x *ℤ p.den +ℤ neg_ℤ (cell p.nums v) *ℤ y)) (moved-same p v f g.positive within) (moved-den p v f g.positive)
-        ∙ by_ring (f.bottom ∷ cell p.nums v ∷ p.den ∷ f.top ∷ []) (var 3 ⊗ ((var 0 ⊗ var 1 ⊖ var 3 ⊗ var 2) ⊗ var 2 ⊕ neg (var 1) ⊗ (var 2 ⊗ var 0))) (neg (var 3 ⊗ var 3 ⊗ (var 2 ⊗ var 2))) refl in
+    ap₂ (λ x y. f.top *ℤ (x *ℤ p.den +ℤ neg_ℤ (cell p.nums v) *ℤ y)) (moved-same p v f g.positive within) (moved-den p v f g.positive)
+    ∙ by_ring (f.bottom ∷ cell p.nums v ∷ p.den ∷ f.top ∷ []) (var 3 ⊗ ((var 0 ⊗ var 1 ⊖ var 3 ⊗ var 2) ⊗ var 2 ⊕ neg (var 1) ⊗ (var 2 ⊗ var 0))) (neg (var 3 ⊗ var 3 ⊗ (var 2 ⊗ var 2))) refl in
     let others : (u : ℕ) → u < length (model_of o).variables → owns (the_block o) u ≡ false → SameRatio (coordinate r u) (coordinate p u) = λ u m free.
-        let apart : u ≢ v = λ e. let t : owns (the_block o) v ≡ true = owned o.pairs k q at in let s : owns (the_block o) v ≡ false = subst (λ x. owns (the_block o) x ≡ false) e free in cc in
-        ap₂ (λ x y. x *ℤ p.den) (moved-other p v f g.positive u apart) (moved-den p v f g.positive)
-        ∙ (by_ring (f.bottom ∷ cell p.nums u ∷ p.den ∷ []) (var 0 ⊗ var 1 ⊗ var 2) (var 1 ⊗ (var 2 ⊗ var 0)) refl ∙ ap (λ y. cell p.nums u *ℤ y) (sym (moved-den p v f g.positive))) in
+    let apart : u ≢ v = λ e. let t : owns (the_block o) v ≡ true = owned o.pairs k q at in let s : owns (the_block o) v ≡ false = subst (λ x. owns (the_block o) x ≡ false) e free in cc in
+    ap₂ (λ x y. x *ℤ p.den) (moved-other p v f g.positive u apart) (moved-den p v f g.positive)
+    ∙ (by_ring (f.bottom ∷ cell p.nums u ∷ p.den ∷ []) (var 0 ⊗ var 1 ⊗ var 2) (var 1 ⊗ (var 2 ⊗ var 0)) refl ∙ ap (λ y. cell p.nums u *ℤ y) (sym (moved-den p v f g.positive))) in
     let fits : Fits (model_of o) r = moved-length p v f g.positive ∙ h.fits in
     let gaps : HasGaps (model_of o) p o.pairs = λ j d i. (row_value p (length o.variables) (sum_at o (get_or o.pairs j d).equation), pair_gap o sound p (get_or o.pairs j d).equation (sound.pairs.declared j d i).0) in
     let flows = (h.solved 0 (the_block o) refl).flows r (rival o p r fits others) in

@@ -1,2 +1,7 @@
 pub mod SumValue
 pub mod FirstLaw
+pub mod Telling
+pub mod WalkGives
+pub mod RunLemmas
+pub mod ThreeItems
+pub mod Loading

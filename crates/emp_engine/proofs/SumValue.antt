@@ -231,7 +231,7 @@ product_adds d xs minus (Multiple n v) c cells h =
 length-raised : (cells : List ℤ) (v : ℕ) (k : ℤ) → length (raised cells v k) ≡ length cells
 length-raised cells v k = length-set cells v (cell cells v +ℤ k)
 
-length-product_cells : (minus : Bool) (cells : List ℤ) (t : Product) → length (product_cells minus cells t) ≡ length cells
+pub length-product_cells : (minus : Bool) (cells : List ℤ) (t : Product) → length (product_cells minus cells t) ≡ length cells
 length-product_cells minus cells (Constant n) = refl
 length-product_cells minus cells (Plain v) = length-raised cells v (signed minus 1)
 length-product_cells minus cells (Multiple n v) = length-raised cells v (signed minus n)

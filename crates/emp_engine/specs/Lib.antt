@@ -1,3 +1,6 @@
 pub mod Form
 pub mod Meaning
 pub mod Report
+pub mod Run
+pub mod FaultLine
+pub mod Steps

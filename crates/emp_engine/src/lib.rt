@@ -1,6 +1,10 @@
 //! The top call: what the program does with its words and a desk.
 #![tactic(auto)]
 
+pub mod decide;
 pub mod fault;
+pub mod fault_line;
 pub mod outline;
+pub mod run;
 pub mod token;
+pub mod words;
