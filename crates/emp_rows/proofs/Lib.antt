@@ -4,3 +4,4 @@ pub mod Sound
 pub mod Joins
 pub mod Primitive
 pub mod Walks
+pub mod Goes
