@@ -28,7 +28,7 @@ use Rattle.emp_ast.specs.Blocks.{owns, is_constraint, constraints, defines_objec
 use Rattle.emp_ast.specs.Solved.{Fits, AgreesOutside, IsFree, IsRival, sides_gap, gap, flow, IsAtLeastZero, IsSolvedVi, IsSolved, has_dual, is_priced, IsEquilibrium}
 use Rattle.emp_rows.specs.declared.affine.Affine.{Affine}
 use Rattle.emp_rows.specs.Affine.{value_times, AllVanish, primitive_of}
-use Rattle.emp_rows.proofs.Primitive.{primitive_zero}
+use Rattle.emp_rows.proofs.Primitive.{primitive_zeros}
 use Rattle.emp_engine.specs.declared.outline.Outline.{Outline}
 use Rattle.emp_engine.specs.declared.outline.Term.{Term}
 use Rattle.emp_engine.specs.declared.outline.Pair.{Pair}
@@ -202,7 +202,7 @@ zero_gaps o sound p h = λ k d l.
     let q : Pair = get_or o.pairs k d in
     let within : q.equation < length o.variables = (sound.pairs.declared k d l).0 in
     let row : value_times (vanishing_row o q) p.den p.nums ≡ pos 0 = subst (λ r. value_times r p.den p.nums ≡ pos 0) (get_or-map (vanishing_row o) o.pairs k d (vanishing_row o d) l) (h k (vanishing_row o d) (subst (λ n. k < n) (sym (length-map o.pairs (vanishing_row o))) l)) in
-    let zero_sum : row_value p (length o.variables) (sum_at o q.equation) ≡ pos 0 = (primitive_zero (sum_cells (length o.variables) (sum_at o q.equation)) (sum_constant (sum_at o q.equation)) p.den p.nums).0 row in
+    let zero_sum : row_value p (length o.variables) (sum_at o q.equation) ≡ pos 0 = (primitive_zeros (sum_cells (length o.variables) (sum_at o q.equation)) (sum_constant (sum_at o q.equation)) p.den p.nums).0 row in
     subst (λ v. HasValue p.den v (gap (model_of o) p q.equation)) zero_sum (pair_gap o sound p q.equation within)
 
 no_price : (o : Outline) (es : List EquId) → list_any (λ e. has_dual (annot_of o) e.at || names_equ (annot_of o).visols e.at) es ≡ false
@@ -314,5 +314,5 @@ equilibrium_gives_vanish o sound p h = λ k d l.
     let g = pair_gap o sound p q.equation (sound.pairs.declared k origin in_pairs).0 in
     let top = function_zero o sound p h k q at g in
     let zero_sum : row_value p (length o.variables) (sum_at o q.equation) ≡ pos 0 = cancel_right (row_value p (length o.variables) (sum_at o q.equation)) (pos 0) g.quotient.bottom (sym g.equal ∙ (ap (λ t. t *ℤ p.den) top ∙ (zero-*ℤ p.den ∙ sym (zero-*ℤ g.quotient.bottom)))) g.positive in
-    let row = (primitive_zero (sum_cells (length o.variables) (sum_at o q.equation)) (sum_constant (sum_at o q.equation)) p.den p.nums).1 zero_sum in
+    let row = (primitive_zeros (sum_cells (length o.variables) (sum_at o q.equation)) (sum_constant (sum_at o q.equation)) p.den p.nums).1 zero_sum in
     subst (λ r. value_times r p.den p.nums ≡ pos 0) (sym (get_or-map (vanishing_row o) o.pairs k origin d in_pairs)) row

@@ -4,17 +4,8 @@ use Prim.Native.Nat.{◌∣◌}
 use Rattle.std.specs.Int.{IsGcd}
 use Rattle.std.proofs.lemmas.Nat.Gcd.{dvd_refl, dvd_trans, IsGcd-from_zero, IsGcd-from_mod}
 use Rattle.std.proofs.lemmas.List.Elements.{All-nil, All-cons}
-use Rattle.emp_num.specs.Gcd.{gcd_within, gcd_of, content_from}
-
-gcd_within_is : (steps a b : ℕ) → b < steps → IsGcd a b (gcd_within steps a b)
-gcd_within_is zero a b h = absurd (omega arith)
-gcd_within_is (suc steps) a zero h = IsGcd-from_zero a zero refl
-gcd_within_is (suc steps) a (suc b) h =
-    let r : a % suc b < suc b = mod-lt a (omega arith) in
-    IsGcd-from_mod a (suc b) (gcd_within steps (suc b) (a % suc b)) (gcd_within_is steps (suc b) (a % suc b) (omega arith))
-
-pub gcd_of_is : (a b : ℕ) → IsGcd a b (gcd_of a b)
-gcd_of_is a b = gcd_within_is (suc b) a b (omega arith)
+use Rattle.emp_num.specs.Gcd.{gcd_of, content_from}
+use Rattle.emp_num.proofs.Divisors.{IsGcd-gcd_of}
 
 -- what a list's content, begun with g, divides
 pub record Divides (c g : ℕ) (zs : List ℤ) : Type 0 where
@@ -25,5 +16,5 @@ pub content_divides : (g : ℕ) (zs : List ℤ) → Divides (content_from g zs) 
 content_divides g [] = record { first = dvd_refl g; all = All-nil (λ z. g ∣ unsigned_abs z) }
 content_divides g (z ∷ zs) =
     let h = content_divides (gcd_of g (unsigned_abs z)) zs in
-    let e = gcd_of_is g (unsigned_abs z) in
+    let e = IsGcd-gcd_of g (unsigned_abs z) in
     record { first = dvd_trans (content_from g (z ∷ zs)) h.first e.0; all = All-cons (λ w. content_from g (z ∷ zs) ∣ unsigned_abs w) z zs (dvd_trans (content_from g (z ∷ zs)) h.first e.1) h.all }

@@ -8,7 +8,8 @@ use Rattle.emp_algebra.proofs.Ring.{var, lit, neg, ◌⊕◌, ◌⊖◌, ◌⊗�
 use Rattle.emp_algebra.proofs.Vectors.{dot-scale, dot-add_rows, dot-set_cell, dot-set_coordinate, length-scale, cell-scale}
 use Rattle.emp_num.specs.Gcd.{gcd_of, content_of}
 use Rattle.emp_num.proofs.Gcds.{quot_exact, divisor_pos, positive_from_product}
-use Rattle.emp_num.proofs.GcdLaws.{gcd_of_is, content_divides}
+use Rattle.emp_num.proofs.GcdLaws.{content_divides}
+use Rattle.emp_num.proofs.Divisors.{IsGcd-gcd_of}
 use Rattle.emp_rows.specs.declared.line.Line.{Line}
 use Rattle.emp_rows.specs.Pivot.{sign, is_zero, quotients, line_content, reduced, turned_by, turned, Factors, factors, combined}
 
@@ -88,7 +89,7 @@ pub record Meet (head a : ℤ) : Type 0 where
 pub factors_meet : (head a : ℤ) → pos 0 <ℤ head → Meet head a
 factors_meet head a h =
     let g : ℤ = pos (gcd_of (unsigned_abs head) (unsigned_abs a)) in
-    let is = gcd_of_is (unsigned_abs head) (unsigned_abs a) in
+    let is = IsGcd-gcd_of (unsigned_abs head) (unsigned_abs a) in
     let p : pos 0 <ℤ g = divisor_pos head (gcd_of (unsigned_abs head) (unsigned_abs a)) is.0 h in
     let e : (factors head a).own *ℤ g ≡ head = quot_exact head g is.0 in
     let f : (factors head a).other *ℤ g ≡ a = quot_exact a g is.1 in

@@ -3,3 +3,9 @@ pub mod Moves
 pub mod Dictionaries
 pub mod WalkLaws
 pub mod Primitive
+pub mod Reduced
+pub mod Steps
+pub mod Sound
+pub mod Joins
+pub mod Walks
+pub mod Goes
