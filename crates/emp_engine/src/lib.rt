@@ -2,5 +2,6 @@
 #![tactic(auto)]
 
 pub mod fault;
+pub mod lexer;
 pub mod outline;
 pub mod token;
