@@ -198,31 +198,17 @@ mod tests {
     use std::test::Fail;
 
     fn shown(alloc: Global, text: &[u8]) -> Result<String, Fail> {
-        let mut line = String::new(alloc);
         let found = match tokens(alloc, text) {
-            Ok(found) => found,
-            Err(ReadFault::OtherForm) => {
-                line.push_str("refused")?;
-                return Ok(line);
-            }
-            Err(ReadFault::NoMemory) => {
-                line.push_str("no memory")?;
-                return Ok(line);
-            }
+            Err(ReadFault::OtherForm) => return Ok(String::from_str(alloc, "refused")?),
+            found => found?,
         };
+        let mut line = String::new(alloc);
         for token in &found {
-            let part = match token {
-                Token::Word(name) => {
-                    let mut bytes = Vec::new(alloc);
-                    for b in name.as_bytes() {
-                        bytes.push(*b)?;
-                    }
-                    String::from_utf8(bytes)?
-                }
-                Token::Numeral(n) => format!(in alloc; "#{n}")?,
-                Token::Sign(sign) => format!(in alloc; "{sign:?}")?,
-            };
-            line.push_str(part.as_str())?;
+            match token {
+                Token::Word(name) => line.push_str(str::from_utf8(name.as_bytes())?)?,
+                Token::Numeral(n) => write!(line, "#{n}")?,
+                Token::Sign(sign) => write!(line, "{sign:?}")?,
+            }
             line.push_str(" ")?;
         }
         Ok(line)
