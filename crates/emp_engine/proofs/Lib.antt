@@ -5,3 +5,4 @@ pub mod WalkGives
 pub mod RunLemmas
 pub mod ThreeItems
 pub mod Loading
+pub mod Lexing

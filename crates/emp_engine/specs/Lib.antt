@@ -4,3 +4,5 @@ pub mod Report
 pub mod Run
 pub mod FaultLine
 pub mod Steps
+pub mod TokenList
+pub mod Cutting
