@@ -1,1 +1,4 @@
 pub mod Desk
+pub mod Files
+pub mod Memory
+pub mod SteadyDesk

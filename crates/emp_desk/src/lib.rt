@@ -1,4 +1,6 @@
-//! The trait of files and output, and desks in memory.
+//! Files and output: what the program reads and writes through, and two desks in memory.
 #![tactic(auto)]
 
 pub mod desk;
+pub mod memory;
+pub mod steady_desk;
