@@ -1,6 +1,9 @@
 //! Files and output: what the program reads and writes through, and two desks in memory.
 #![tactic(auto)]
 
+mod call_log;
 pub mod desk;
-pub mod memory;
+mod memory;
+pub mod memory_desk;
+pub mod no_memory;
 pub mod steady_desk;

@@ -4,24 +4,9 @@ ghost use Rattle.emp_desk.specs.Desk.{StoresPrefix, SaysPrefix};
 ghost use Rattle.emp_desk.specs.Files.{Kept, bytes_of, Puts, Removes, IsSameFiles};
 ghost use Rattle.emp_desk.specs.Memory.{files_of, output_of, contents_of};
 
-use std::alloc::{AllocError, AllocFailed, Global};
+use crate::no_memory::NoMemory;
+use std::alloc::Global;
 use std::collections::BTreeMap;
-
-/// There was no memory for what was asked.
-#[derive(Clone, Copy, Debug, PartialEq, Eq)]
-pub struct NoMemory;
-
-impl From<AllocError> for NoMemory {
-    fn from(_error: AllocError) -> NoMemory {
-        NoMemory
-    }
-}
-
-impl<T: Drop> From<AllocFailed<T>> for NoMemory {
-    fn from(_error: AllocFailed<T>) -> NoMemory {
-        NoMemory
-    }
-}
 
 /// Files by name, and an output. It keeps the allocator that it was made with.
 #[derive(Drop)]
