@@ -2,14 +2,14 @@
 //!
 //! No clause says which bytes reach the system or come from it, so this desk tells nothing of its files and its output.
 //! What it does is tested and not proved.
-ghost use Rattle.std.specs.Prelude.{◌≡◌, ◌≤◌, ℕ, None, IfOk, vec_len};
+ghost use Rattle.std.specs.Prelude.{◌≡◌, ◌≢◌, ◌≤◌, ℕ, None, Ok, Err, IfOk, OnOk, OnErr, vec_len};
+ghost use Rattle.emp_desk.specs.Desk.{Place, Rose};
 
 use emp_desk::desk::{Desk, LoadFault, StoreFault};
 use std::alloc::Global;
-use std::fs;
-use std::io;
 use std::io::{Read, Write};
 use std::rt::Files;
+use std::{fs, io};
 
 /// The bytes that one read asks for at most.
 const CHUNK: usize = 4096;
@@ -29,12 +29,15 @@ struct NotTaken;
 impl<R: Files + Print + Drop> FileDesk<R> {
     /// A desk over this runtime, with no failure yet.
     pub fn new(rt: R) -> FileDesk<R>
-        ensures { result.failures ≡ 0 }
+        ensures { (place : Place) → ⟦<FileDesk<R> as Desk>⟧.faults result place ≡ 0 }
     {
         FileDesk { rt, failures: 0 }
     }
 
-    fn note_failure(&mut self) {
+    fn note_failure(&mut self)
+        ensures rose { Rose self.old.failures self.new.failures }
+        ensures not_fallen { self.old.failures ≤ self.new.failures }
+    {
         self.failures = self.failures.saturating_add(1);
     }
 
@@ -106,7 +109,12 @@ impl<R: Files + Print + Drop> Desk for FileDesk<R> {
     }
 
     /// Takes no memory, and so never answers `NoMemory`. A file that cannot be opened stays as it was.
-    fn store(&mut self, name: &str, bytes: &[u8]) -> Result<(), StoreFault> {
+    fn store(&mut self, name: &str, bytes: &[u8]) -> Result<(), StoreFault>
+        ensures failed { OnErr result (Rose self.old.failures self.new.failures) }
+        ensures not_fallen { self.old.failures ≤ self.new.failures }
+        ensures stays { OnOk result (self.new.failures ≡ self.old.failures) }
+        ensures takes_no_memory { result ≢ Err StoreFault.NoMemory }
+    {
         match self.write_file(name, bytes) {
             Ok(()) => Ok(()),
             Err(NotTaken) => {
@@ -117,7 +125,12 @@ impl<R: Files + Print + Drop> Desk for FileDesk<R> {
     }
 
     /// Takes no memory, and so never answers `NoMemory`.
-    fn say(&mut self, bytes: &[u8]) -> Result<(), StoreFault> {
+    fn say(&mut self, bytes: &[u8]) -> Result<(), StoreFault>
+        ensures failed { OnErr result (Rose self.old.failures self.new.failures) }
+        ensures not_fallen { self.old.failures ≤ self.new.failures }
+        ensures stays { OnOk result (self.new.failures ≡ self.old.failures) }
+        ensures takes_no_memory { result ≢ Err StoreFault.NoMemory }
+    {
         match write_whole(&mut io::writer(&self.rt), bytes) {
             Ok(()) => Ok(()),
             Err(NotTaken) => {
@@ -150,11 +163,17 @@ mod tests {
             let whole = text(alloc, len)?;
             assert!(rt; desk.store(name, whole.as_slice()).is_ok(), "storing {len}");
             let loaded = desk.load(alloc, name, 100000);
-            assert!(rt; loaded.is_ok_and(|v| v.as_slice() == whole.as_slice()), "loading {len}");
+            assert!(rt;
+                loaded.is_ok_and(|v| v.as_slice() == whole.as_slice()),
+                "loading {len}"
+            );
             for most in cuts {
                 let part = desk.load(alloc, name, most);
                 let expected = &whole.as_slice()[..most.min(len)];
-                assert!(rt; part.is_ok_and(|v| v.as_slice() == expected), "{most} of {len}");
+                assert!(rt;
+                    part.is_ok_and(|v| v.as_slice() == expected),
+                    "{most} of {len}"
+                );
             }
         }
         fs::remove_file(&rt, name)?;

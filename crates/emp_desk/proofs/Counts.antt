@@ -1,5 +1,5 @@
 -- How the counts change over a call that was counted first and then failed.
-use Rattle.std.proofs.Common.{◌≡◌, ◌≢◌, List, ℕ, ◌+◌, ◌<◌, ◌≤◌, sym, ap, ◌∙◌, subst, inl, inr, arith}
+use Rattle.std.proofs.Common.{◌≡◌, ◌≢◌, List, ℕ, ◌+◌, ◌<◌, sym, ap, ◌∙◌, subst, inl, arith}
 use Rattle.emp_desk.specs.Desk.{Place, loads, Rose, NoneFalls, OnlyAt}
 use Rattle.emp_desk.specs.Counts.{HasSameCounts, HasOneMoreAt}
 use Rattle.emp_desk.specs.MemoryDesk.{LoadFaultCounts, StoreFaultCounts}

@@ -1,9 +1,9 @@
 -- Stores and says that took only a part of their bytes.
-use Rattle.std.proofs.Common.{◌≡◌, ◌≢◌, ◌++◌, ℕ, ◌<◌, List, [], ◌∷◌, take, drop, append-nil, OnOk, OnErr, Result, Ok, Err, Some, None, Option, sym, refl, ap, ◌∙◌}
+use Rattle.std.proofs.Common.{◌≡◌, ◌++◌, ℕ, List, [], take, drop, append-nil, OnOk, OnErr, Result, Ok, Err, sym, refl, ap, ◌∙◌}
 use Rattle.std.specs.Option.{unwrap_or}
 use Rattle.std.proofs.lemmas.List.{take-append-drop}
-use Rattle.emp_desk.specs.Desk.{Contents, IsPrefix, StoresPrefix, SaysPrefix}
-use Rattle.emp_desk.specs.Files.{Kept, bytes_of, Puts, Removes, IsSameFiles}
+use Rattle.emp_desk.specs.Desk.{StoresPrefix, SaysPrefix}
+use Rattle.emp_desk.specs.Files.{Puts, Removes, IsSameFiles}
 use Rattle.emp_desk.specs.Memory.{files_of, output_of, contents_of}
 use Rattle.emp_desk.specs.declared.memory.Memory.{Memory}
 

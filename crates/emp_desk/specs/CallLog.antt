@@ -1,5 +1,5 @@
 -- What clauses say of a log of calls.
-use Rattle.std.specs.Prelude.{ℕ, ◌+◌, ◌-◌, ◌^◌, min, Bool, true, false, List, Contains, count_by, string_bytes}
+use Rattle.std.specs.Prelude.{ℕ, ◌+◌, ◌-◌, ◌^◌, min, Bool, true, false, Contains, count_by, string_bytes}
 use Rattle.std.specs.Str.{bytes_eq}
 use Rattle.emp_desk.specs.Desk.{Place, loads, stores, output}
 use Rattle.emp_desk.specs.declared.call_log.CallLog.{CallLog}

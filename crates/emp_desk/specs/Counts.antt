@@ -1,5 +1,5 @@
 -- How the counts of faults change in a call.
-use Rattle.std.specs.Prelude.{◌≡◌, ◌≢◌, ℕ, ◌+◌}
+use Rattle.std.specs.Prelude.{◌≡◌, ℕ, ◌+◌}
 use Rattle.emp_desk.specs.Desk.{Place, OnlyAt}
 
 -- no count changed

@@ -1,5 +1,5 @@
 -- What is kept in memory: files by name, and an output.
-use Rattle.std.specs.Prelude.{ℕ, List, Option}
+use Rattle.std.specs.Prelude.{ℕ, List}
 use Rattle.std.specs.Option.{option_map}
 use Rattle.std.specs.BTreeMap.{get_by_text}
 use Rattle.emp_desk.specs.Desk.{Contents}

@@ -1,4 +1,4 @@
-use Rattle.std.proofs.Common.{◌≡◌, OnOk, subst}
+use Rattle.std.proofs.Common.{OnOk, subst}
 use Rattle.emp_desk.specs.Files.{Puts}
 use Rattle.emp_desk.specs.Memory.{files_of}
 use Rattle.emp_desk.proofs.Parts.{part_stored}
