@@ -7,3 +7,5 @@ mod memory;
 pub mod memory_desk;
 pub mod no_memory;
 pub mod steady_desk;
+#[cfg(test)]
+mod tests;
