@@ -1,5 +1,5 @@
 //! The trait of files and output.
-ghost use Rattle.std.specs.Prelude.{◌≡◌, ℕ, Option, IsSome, IfOk, IfErr, OnOk, OnErr};
+ghost use Rattle.std.specs.Prelude.{◌≡◌, ◌≤◌, ℕ, vec_len, Option, IsSome, IfOk, IfErr, OnOk, OnErr};
 ghost use Rattle.emp_desk.specs.Desk.{Place, loads, stores, output, Contents, Told, KeepsAll, Loads, Stores, StoresPrefix, Says, SaysPrefix, Rose, NoneFalls, OnlyAt};
 
 use std::alloc::Global;
@@ -30,6 +30,7 @@ pub trait Desk {
     /// The first `most` bytes of a file, or all of it where it is shorter.
     fn load(&mut self, alloc: Global, name: &str, most: usize) -> Result<Vec<u8>, LoadFault>
         ensures bytes { IfOk result (λ v. Told (Loads name.now most v.items) (tells self.old) (tells self.new)) }
+        ensures short { IfOk result (λ v. vec_len v ≤ most) }
         ensures keeps { Told KeepsAll (tells self.old) (tells self.new) }
         ensures failed { IfErr result (λ e. e ≡ LoadFault.Failed → Rose (faults self.old (loads name.now)) (faults self.new (loads name.now))) }
         ensures none_falls { NoneFalls (faults self.old) (faults self.new) }

@@ -1,5 +1,5 @@
 //! Named files and an output, in memory.
-ghost use Rattle.std.specs.Prelude.{◌≡◌, ◌++◌, ℕ, List, [], Option, Some, None, IsTrue, IsSome, ◌↔◌, IfOk, OnOk, OnErr, take, option_copied};
+ghost use Rattle.std.specs.Prelude.{◌≡◌, ◌≤◌, length, vec_len, ◌++◌, ℕ, List, [], Option, Some, None, IsTrue, IsSome, ◌↔◌, IfOk, OnOk, OnErr, take, option_copied};
 ghost use Rattle.emp_desk.specs.Desk.{StoresPrefix, SaysPrefix};
 ghost use Rattle.emp_desk.specs.Files.{Kept, bytes_of, Puts, Removes, IsSameFiles};
 ghost use Rattle.emp_desk.specs.Memory.{files_of, output_of, contents_of};
@@ -92,7 +92,8 @@ impl Memory {
 
     /// The first `most` bytes of the file, or all of it where it is shorter. A file that is not kept is empty.
     pub fn load(&self, alloc: Global, name: &str, most: usize) -> Result<Vec<u8>, NoMemory>
-        ensures { IfOk result (λ v. v.items ≡ take most (bytes_of (files_of self.now) name.now)) }
+        ensures bytes { IfOk result (λ v. v.items ≡ take most (bytes_of (files_of self.now) name.now)) }
+        ensures short { IfOk result (λ v. vec_len v ≤ most) }
     {
         match self.file(name) {
             Some(bytes) => Ok(Vec::from_slice(alloc, first(bytes, most))?),
@@ -128,7 +129,8 @@ impl Memory {
 
 /// The first `most` elements, or all where there are fewer.
 pub fn first(bytes: &[u8], most: usize) -> &[u8]
-    ensures { result.now ≡ take most bytes.now }
+    ensures bytes { result.now ≡ take most bytes.now }
+    ensures short { length result.now ≤ most }
 {
     if most < bytes.len() {
         &bytes[..most]

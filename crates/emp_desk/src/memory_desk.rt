@@ -1,5 +1,5 @@
 //! A desk in memory that fails at the calls that it is told to fail at.
-ghost use Rattle.std.specs.Prelude.{◌≡◌, ◌≢◌, ◌∷◌, ◌++◌, ℕ, List, [], Option, Some, None, Result, Ok, Err, IsSome, IfOk, IfErr, OnOk, OnErr, option_copied};
+ghost use Rattle.std.specs.Prelude.{◌≡◌, ◌≤◌, vec_len, ◌≢◌, ◌∷◌, ◌++◌, ℕ, List, [], Option, Some, None, Result, Ok, Err, IsSome, IfOk, IfErr, OnOk, OnErr, option_copied};
 ghost use Rattle.emp_desk.specs.Desk.{Place, loads, stores, output, Contents, Told, KeepsAll, Loads, Stores, StoresPrefix, Says, SaysPrefix, Rose, NoneFalls, OnlyAt};
 ghost use Rattle.emp_desk.specs.Files.{Puts, IsSameFiles};
 ghost use Rattle.emp_desk.specs.Counts.{HasSameCounts, HasOneMoreAt};
@@ -135,6 +135,7 @@ impl Desk for MemoryDesk {
     /// Fails exactly where the call is to fail or the name is not kept, unless there is no memory.
     fn load(&mut self, alloc: Global, name: &str, most: usize) -> Result<Vec<u8>, LoadFault>
         ensures bytes { IfOk result (λ v. Loads name.now most v.items (told self.old) (told self.new)) }
+        ensures short { IfOk result (λ v. vec_len v ≤ most) }
         ensures keeps { KeepsAll (told self.old) (told self.new) }
         ensures failed { IfErr result (λ e. e ≡ LoadFault.Failed → Rose (count_at self.old (loads name.now)) (count_at self.new (loads name.now))) }
         ensures none_falls { NoneFalls (count_at self.old) (count_at self.new) }
