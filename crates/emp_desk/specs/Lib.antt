@@ -1,1 +1,7 @@
+pub mod CallLog
+pub mod Counts
 pub mod Desk
+pub mod Files
+pub mod Memory
+pub mod MemoryDesk
+pub mod SteadyDesk

@@ -1,4 +1,11 @@
-//! The trait of files and output, and desks in memory.
+//! Files and output: what the program reads and writes through, and two desks in memory.
 #![tactic(auto)]
 
+mod call_log;
 pub mod desk;
+mod memory;
+pub mod memory_desk;
+pub mod no_memory;
+pub mod steady_desk;
+#[cfg(test)]
+mod tests;
