@@ -1,3 +1,4 @@
+pub mod FaultLine
 pub mod Form
 pub mod Meaning
 pub mod Report

@@ -2,5 +2,7 @@
 #![tactic(auto)]
 
 pub mod fault;
+pub mod fault_line;
 pub mod outline;
+pub mod report;
 pub mod token;
