@@ -1,2 +1,3 @@
 pub mod ReportLemmas
+pub mod RowLemmas
 pub mod SumValue

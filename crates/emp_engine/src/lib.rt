@@ -5,4 +5,5 @@ pub mod fault;
 pub mod fault_line;
 pub mod outline;
 pub mod report;
+pub mod rows;
 pub mod token;
