@@ -1,9 +1,8 @@
 -- The numbers of a sum stay small, and its rows.
-use Rattle.std.proofs.Common.{◌≡◌, ℕ, zero, suc, ◌+◌, ◌*◌, ◌^◌, ◌<◌, ◌≤◌, ℤ, pos, neg_ℤ, ◌+ℤ◌, Bool, true, false, List, [], ◌∷◌, ◌++◌, length, take, fold, replicate, get_or, set, unsigned_abs, arith, refl, sym, ap, subst, ◌∙◌, All, length-append}
-use Rattle.std.proofs.lemmas.List.{get_or_append_left, get_or-append-add, length-replicate, length-set, take_all}
-use Rattle.std.proofs.lemmas.List.Sums.{fold_more}
+use Rattle.std.proofs.Common.{◌≡◌, ℕ, zero, suc, ◌+◌, ◌*◌, ◌^◌, ◌<◌, ◌≤◌, ℤ, pos, ◌+ℤ◌, Bool, true, false, List, [], ◌∷◌, ◌++◌, length, take, fold, replicate, get_or, unsigned_abs, arith, refl, subst, ◌∙◌, All, length-append}
+use Rattle.std.proofs.lemmas.List.{get_or_append_left, get_or-append-add, length-replicate, length-set}
 use Rattle.std.proofs.lemmas.List.Elements.{All-head, All-tail, All-set, All-replicate, All-take, All-weaker}
-use Rattle.std.proofs.lemmas.Int.{ints, to_z-of_z}
+use Rattle.std.proofs.lemmas.Int.{ints}
 use Rattle.emp_algebra.specs.Vector.{cell}
 use Rattle.emp_num.specs.Exact.{IsNarrow}
 use Rattle.emp_engine.specs.declared.outline.Term.{Term}

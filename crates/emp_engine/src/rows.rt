@@ -1,5 +1,5 @@
 //! The rows of an outline: of each pair its equation's left side, which is to be 0.
-ghost use Rattle.std.specs.Prelude.{◌≡◌, ◌+◌, ◌<◌, ◌≤◌, ◌^◌, pos, ◌+ℤ◌, length, map, replicate, slice_index_or, unsigned_abs, vec_len, IfOk, [], ℕ, ℤ};
+ghost use Rattle.std.specs.Prelude.{◌≡◌, ◌<◌, ◌≤◌, ◌^◌, ◌+ℤ◌, length, unsigned_abs, IfOk};
 ghost use Rattle.std.specs.List.{All};
 ghost use Rattle.emp_num.specs.Exact.{IsNarrow};
 ghost use Rattle.emp_rows.specs.Affine.{IsRow};
@@ -32,7 +32,7 @@ fn row(alloc: Global, count: usize, terms: &[Term]) -> Result<Affine, AllocError
     ensures value { IfOk result (λ r. r ≡ row_of count terms.now) }
     ensures narrow { IfOk result (IsRow count) }
 {
-    let sum = added(alloc, count, terms)?;
+    let sum = sum_of(alloc, count, terms)?;
     Affine::primitive(alloc, sum.cells.as_slice(), sum.constant)
 }
 
@@ -43,7 +43,7 @@ struct Sum {
     constant: i128,
 }
 
-fn added(alloc: Global, count: usize, terms: &[Term]) -> Result<Sum, AllocError>
+fn sum_of(alloc: Global, count: usize, terms: &[Term]) -> Result<Sum, AllocError>
     requires declared { All (λ v. v < count) (sum_variables terms.now) }
     requires bounded { All (λ t. product_number t.product ≤ 10 ^ 18) terms.now }
     ensures cells { IfOk result (λ s. s.cells.items ≡ sum_cells count terms.now) }
@@ -88,4 +88,33 @@ fn with_sign(negative: bool, number: u64) -> i128
 {
     let number = number as i128;
     if negative { -number } else { number }
+}
+
+#[cfg(test)]
+mod tests {
+    use super::*;
+    use std::test::Fail;
+
+    // 8 - 6 y + 4 x
+    #[test]
+    fn a_row(rt: HostRuntime) -> Result<(), Fail> {
+        let terms = [
+            Term {
+                negative: false,
+                product: Product::Constant(8),
+            },
+            Term {
+                negative: true,
+                product: Product::Multiple(6, 1),
+            },
+            Term {
+                negative: false,
+                product: Product::Multiple(4, 0),
+            },
+        ];
+        let row = row(rt.alloc(), 2, &terms)?;
+        assert!(rt; row.cells.as_slice() == [2, -3].as_slice());
+        assert_eq!(rt; row.constant, 4);
+        Ok(())
+    }
 }

@@ -1,4 +1,4 @@
-use Rattle.std.proofs.Common.{◌≡◌, List, [], length, map, take, get_or, All}
+use Rattle.std.proofs.Common.{◌≡◌, [], length, map, take, get_or, All}
 use Rattle.emp_rows.specs.Affine.{IsRow}
 use Rattle.emp_engine.specs.Meaning.{row_of}
 use Rattle.emp_engine.proofs.rows.rows.Given as goal

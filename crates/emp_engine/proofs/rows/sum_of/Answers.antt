@@ -1,9 +1,8 @@
-use Rattle.std.proofs.Common.{◌≡◌, ℕ, ◌<◌, ◌^◌, ℤ, List, length, take, get_or, false, arith, rules, sym, subst, ◌∙◌, ap, All}
+use Rattle.std.proofs.Common.{◌≡◌, ◌<◌, ◌^◌, length, take, get_or, false, arith, sym, subst, ◌∙◌, ap, All}
 use Rattle.emp_engine.specs.Form.{product_variables}
-use Rattle.emp_engine.specs.Meaning.{sum_cells, sum_constant}
 use Rattle.emp_engine.specs.declared.outline.Product.TheVariants.{Constant}
 use Rattle.emp_engine.proofs.RowLemmas.{IsSmall, cells_small_at, constant_small_at, declared_at, length-sum_cells, small_is_narrow}
-use Rattle.emp_engine.proofs.rows.added.Goals as goal
+use Rattle.emp_engine.proofs.rows.sum_of.Goals as goal
 
 pub add-requires-clause-cells : goal.add-requires-clause-cells
 add-requires-clause-cells c =

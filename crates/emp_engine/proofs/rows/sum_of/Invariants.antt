@@ -1,6 +1,6 @@
 use Rattle.std.proofs.Common.{◌≡◌, take}
 use Rattle.emp_engine.specs.Meaning.{sum_cells, sum_constant}
-use Rattle.emp_engine.proofs.rows.added.Given as goal
+use Rattle.emp_engine.proofs.rows.sum_of.Given as goal
 
 abbrev pub invariant-loop-term : goal.invariant-loop-term
 invariant-loop-term l = record {
