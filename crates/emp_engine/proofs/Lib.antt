@@ -1,3 +1,5 @@
+pub mod ReportLemmas
+pub mod RowLemmas
 pub mod SumValue
 pub mod FirstLaw
 pub mod Telling

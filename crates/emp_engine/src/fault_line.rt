@@ -81,3 +81,31 @@ fn numbered(text: &str, number: u64) -> ArrayString<64>
     line.push_str("\n");
     line
 }
+
+#[cfg(test)]
+mod tests {
+    use super::*;
+
+    #[test]
+    fn lines_and_statuses(rt: HostRuntime) {
+        for (fault, line, status) in [
+            (Fault::NotYet, "error 30: not yet\n", 30),
+            (
+                Fault::Unread(Input::Model),
+                "error 11: cannot read file 1\n",
+                11,
+            ),
+            (
+                Fault::Unread(Input::Annotation),
+                "error 11: cannot read file 2\n",
+                11,
+            ),
+            (Fault::NoMemory, "error 21: no memory\n", 21),
+            (Fault::Wide(2), "error 19: wide at node 1 pivot 2\n", 19),
+            (Fault::Wide(33), "error 19: wide at node 1 pivot 33\n", 19),
+        ] {
+            assert!(rt; fault.line().as_str() == line, "{line}");
+            assert_eq!(rt; fault.status(), status, "{line}");
+        }
+    }
+}

@@ -6,6 +6,8 @@ pub mod fault;
 pub mod fault_line;
 pub mod lexer;
 pub mod outline;
+pub mod report;
+pub mod rows;
 pub mod run;
 pub mod token;
 pub mod words;

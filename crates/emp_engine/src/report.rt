@@ -1,0 +1,143 @@
+//! Reports: a line of what was found, a line of its work, and what was found.
+ghost use Rattle.std.specs.Prelude.{◌≡◌, ◌++◌, codes, decimal, IfOk, OnOk};
+ghost use Rattle.std.specs.Fmt.{signed_decimal};
+ghost use Rattle.emp_engine.specs.Report.{equilibrium_report, factors_text, fraction_text, missing_report, point_lines};
+
+use emp_list::name::Name;
+use emp_num::frac::Frac;
+use itoa::Buffer;
+use std::alloc::{AllocError, Global};
+
+/// The report of an equilibrium: the value of each variable in order, after that much work.
+///
+/// The only error is that no memory is left.
+pub fn equilibrium(
+    alloc: Global,
+    work: u64,
+    names: &[Name],
+    point: &[Frac],
+) -> Result<Vec<u8>, AllocError>
+    ensures { IfOk result (λ v. v.items ≡ equilibrium_report work names.now point.now) }
+{
+    let mut out = Vec::new(alloc);
+    append(&mut out, b"equilibrium\n")?;
+    append_work(&mut out, work)?;
+    append_point(&mut out, names, point)?;
+    Ok(out)
+}
+
+/// The report that there is no equilibrium, with the factors of the rows, after that much work.
+///
+/// The only error is that no memory is left.
+pub fn missing(alloc: Global, work: u64, factors: &[i128]) -> Result<Vec<u8>, AllocError>
+    ensures { IfOk result (λ v. v.items ≡ missing_report work factors.now) }
+{
+    let mut out = Vec::new(alloc);
+    append(&mut out, b"no equilibrium\n")?;
+    append_work(&mut out, work)?;
+    append(&mut out, b"nodes 1\n")?;
+    append(&mut out, b"row")?;
+    append_factors(&mut out, factors)?;
+    append(&mut out, b"\n")?;
+    Ok(out)
+}
+
+fn append(out: &mut Vec<u8>, text: &[u8]) -> Result<(), AllocError>
+    ensures { OnOk result (out.new.items ≡ out.old.items ++ text.now) }
+{
+    out.extend_from_slice(text)?;
+    Ok(())
+}
+
+fn append_work(out: &mut Vec<u8>, work: u64) -> Result<(), AllocError>
+    ensures { OnOk result (out.new.items ≡ out.old.items ++ codes "work " ++ decimal work ++ codes "\n") }
+{
+    let mut buffer = Buffer::new();
+    append(out, b"work ")?;
+    append(out, buffer.format(work).as_bytes())?;
+    append(out, b"\n")
+}
+
+fn append_number(out: &mut Vec<u8>, number: i128) -> Result<(), AllocError>
+    ensures { OnOk result (out.new.items ≡ out.old.items ++ signed_decimal number) }
+{
+    let mut buffer = Buffer::new();
+    append(out, buffer.format(number).as_bytes())
+}
+
+fn append_fraction(out: &mut Vec<u8>, fraction: Frac) -> Result<(), AllocError>
+    ensures { OnOk result (out.new.items ≡ out.old.items ++ fraction_text fraction) }
+{
+    append_number(out, fraction.num)?;
+    if fraction.den == 1 {
+        return Ok(());
+    }
+    append(out, b"/")?;
+    append_number(out, fraction.den)
+}
+
+fn append_value(out: &mut Vec<u8>, name: &Name, value: Frac) -> Result<(), AllocError>
+    ensures { OnOk result (out.new.items ≡ out.old.items ++ name.now ++ codes " = " ++ fraction_text value ++ codes "\n") }
+{
+    append(out, name.as_bytes())?;
+    append(out, b" = ")?;
+    append_fraction(out, value)?;
+    append(out, b"\n")
+}
+
+#[tactic(auto, using(crate::proofs::ReportLemmas::reports))]
+fn append_point(out: &mut Vec<u8>, names: &[Name], point: &[Frac]) -> Result<(), AllocError>
+    ensures { OnOk result (out.new.items ≡ out.old.items ++ point_lines names.now point.now) }
+{
+    for at in 0..names.len().min(point.len()) {
+        append_value(out, &names[at], point[at])?;
+    }
+    Ok(())
+}
+
+#[tactic(auto, using(crate::proofs::ReportLemmas::reports))]
+fn append_factors(out: &mut Vec<u8>, factors: &[i128]) -> Result<(), AllocError>
+    ensures { OnOk result (out.new.items ≡ out.old.items ++ factors_text factors.now) }
+{
+    for factor in factors {
+        append(out, b" ")?;
+        append_number(out, *factor)?;
+    }
+    Ok(())
+}
+
+#[cfg(test)]
+mod tests {
+    use super::*;
+    use std::test::Fail;
+
+    #[test]
+    fn values_in_lowest_terms(rt: HostRuntime) -> Result<(), Fail> {
+        let alloc = rt.alloc();
+        let names = [Name::of(alloc, b"x")?, Name::of(alloc, b"y")?];
+        for (first, second, expected) in [
+            (
+                Frac::new(2, 1)?,
+                Frac::new(1, 1)?,
+                "equilibrium\nwork 3\nx = 2\ny = 1\n",
+            ),
+            (
+                Frac::new(12, -586)?,
+                Frac::new(0, 5)?,
+                "equilibrium\nwork 3\nx = -6/293\ny = 0\n",
+            ),
+        ] {
+            let report = equilibrium(alloc, 3, &names, &[first, second])?;
+            assert!(rt; report.as_slice() == expected.as_bytes(), "{expected}");
+        }
+        Ok(())
+    }
+
+    #[test]
+    fn factors(rt: HostRuntime) -> Result<(), Fail> {
+        let report = missing(rt.alloc(), 2, &[-1, 1])?;
+        let expected = b"no equilibrium\nwork 2\nnodes 1\nrow -1 1\n";
+        assert!(rt; report.as_slice() == expected.as_slice());
+        Ok(())
+    }
+}
