@@ -38,7 +38,8 @@ pub fn sum(a: i128, b: i128) -> Result<i128, Wide>
     }
 }
 
-fn common_divisor(a: u128, b: u128) -> u128
+/// The greatest common divisor of two counts.
+pub fn common_divisor(a: u128, b: u128) -> u128
     ensures { IsGcd a b result }
 {
     let mut x = a;

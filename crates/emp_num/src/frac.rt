@@ -31,7 +31,7 @@ impl Frac {
     }
 
     /// The fraction of two narrow numbers, in lowest terms.
-    fn reduced(num: i128, den: i128) -> Frac
+    pub fn reduced(num: i128, den: i128) -> Frac
         requires narrow_num { IsNarrow num }
         requires narrow_den { IsNarrow den }
         requires positive { pos 0 <ℤ den }

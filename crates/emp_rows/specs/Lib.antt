@@ -1,3 +1,5 @@
 pub mod Affine
 pub mod Pivot
+pub mod Steps
 pub mod Walk
+pub mod Tableau

@@ -3,4 +3,5 @@
 
 pub mod affine;
 pub mod line;
+pub mod reduce;
 pub mod walk;
