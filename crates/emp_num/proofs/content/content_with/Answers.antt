@@ -1,4 +1,4 @@
-use Rattle.std.proofs.Common.{ℕ, ◌≡◌, ◌∙◌, pos, get_or, unsigned_abs, arith, rules, subst}
+use Rattle.std.proofs.Common.{◌≡◌, ◌∙◌, pos, get_or, unsigned_abs, arith, rules, subst}
 use mir.Syntax.{w128}
 use mir.Val.{SFits}
 use Rattle.std.specs.Int.{IsGcd}
