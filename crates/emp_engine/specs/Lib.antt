@@ -1,1 +1,3 @@
 pub mod Form
+pub mod SaysOutline
+pub mod Parsing

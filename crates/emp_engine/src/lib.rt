@@ -3,4 +3,5 @@
 
 pub mod fault;
 pub mod outline;
+pub mod parser;
 pub mod token;
