@@ -198,10 +198,10 @@ fn sum(
         let (product, after_product) = product(tokens, place, variables)?;
         let (joint, next) = joint(tokens, after_product)?;
         found.push(Term { negative, product })?;
-        let Some(minus) = joint else {
-            return Ok((found, next));
-        };
-        negative = minus;
+        match joint {
+            None => return Ok((found, next)),
+            Some(minus) => negative = minus,
+        }
         place = next;
     }
     Err(ReadFault::OtherForm)
