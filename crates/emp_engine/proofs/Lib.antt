@@ -1,1 +1,2 @@
 pub mod ParsingSteps
+pub mod ParsingTests

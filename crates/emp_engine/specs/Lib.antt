@@ -1,3 +1,4 @@
 pub mod Form
 pub mod SaysOutline
 pub mod Parsing
+pub mod Soundness

@@ -3,6 +3,8 @@ ghost use Rattle.std.specs.Prelude.{◌≡◌, ◌+◌, ◌<◌, ◌≤◌, ℕ,
 ghost use Rattle.emp_engine.specs.Form.{SameName};
 ghost use Rattle.emp_engine.specs.Parsing.{Reads, Skips, Sees, multiple_then, find_then, same_name, find_name, after_called, after_sign, after_zero, name_then, separator_then, names_then, lead_then, product_then, terms_then, joint_then, sum_then, definition_then, definitions_then, head_then, all_then, solve_then, tail_then, opening_then, pairs_of};
 
+mod sound;
+
 use crate::fault::ReadFault;
 use crate::outline::{Outline, Pair, Product, Term};
 use crate::token::{Sign, Token};
