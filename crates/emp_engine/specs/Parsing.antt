@@ -27,6 +27,10 @@ Skips ts r o = MatchResult r (λ n. o ≡ Some (drop n ts)) (λ e. (e ≡ OtherF
 abbrev pub Sees : {V : Type 0} → List Token → Result (V × ℕ) ReadFault → Option (V × List Token) → Type 0
 Sees ts r o = MatchResult r (λ p. o ≡ Some (p.0, drop p.1 ts)) (λ e. (e ≡ OtherForm) × (o ≡ None))
 
+-- what was read of all of a list of tokens
+abbrev pub Gives : {V : Type 0} → Result V ReadFault → Option V → Type 0
+Gives r o = MatchResult r (λ v. o ≡ Some v) (λ e. e ≡ OtherForm → o ≡ None)
+
 abbrev pub same_name : List ℕ → List ℕ → Bool
 same_name a b = str_eq_ignore_ascii_case a b
 
@@ -156,3 +160,27 @@ abbrev pub pairs_of : List (List ℕ) → List (List ℕ) → List Pair → List
 pairs_of vars equations found (Word e ∷ Word v ∷ ts) = pairs_of vars equations (found ++ record { equation = find_name equations e; variable = find_name vars v } ∷ []) ts
 pairs_of vars equations found [] = Some found
 pairs_of vars equations found ts = None
+
+-- at the end, and not before it
+abbrev pub if_over : {V : Type 0} → List Token → Option V → Option V
+if_over [] o = o
+if_over (t ∷ ts) o = None
+
+abbrev pub are_few : List (List ℕ) → List (List ℕ) → Bool
+are_few vars equations = nat_le (length vars) 32 && nat_le (length equations) 32
+
+abbrev pub body_of : List (List ℕ) → List (List ℕ) → List Token → Option (List (List Term) × List ℕ)
+body_of vars equations ts =
+    option_and_then (λ d. option_and_then (λ t. if_over t.1 (Some (d.0, t.0))) (tail_then d.1)) (definitions_then vars equations [] ts)
+
+abbrev pub info_of : List (List ℕ) → List (List ℕ) → List Token → Option (List Pair)
+info_of vars equations ts = option_and_then (λ us. pairs_of vars equations [] us) (opening_then ts)
+
+abbrev pub outline_from : List (List ℕ) × List (List ℕ) → List (List Term) × List ℕ → List Pair → Outline
+outline_from h b ps = record { variables = h.0; equations = h.1; sums = b.0; model = b.1; pairs = ps }
+
+abbrev pub rest_of : List (List ℕ) × List (List ℕ) → List Token → List Token → Option Outline
+rest_of h model info = option_and_then (λ b. option_and_then (λ ps. Some (outline_from h b ps)) (info_of h.0 h.1 info)) (body_of h.0 h.1 model)
+
+abbrev pub outline_of : List Token → List Token → Option Outline
+outline_of model info = option_and_then (λ h. cond (are_few h.0.0 h.0.1) (rest_of h.0 h.1 info) None) (head_then model)

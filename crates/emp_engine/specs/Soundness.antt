@@ -1,5 +1,6 @@
 -- The tests by which the parser sees that an outline is sound. They are not trusted: each is proved to say what `IsSound` says.
-use Rattle.std.specs.Prelude.{◌≡◌, ℕ, ◌+◌, ◌^◌, Bool, true, false, cond, ◌&&◌, ◌||◌, nat_eq, nat_le, nat_lt, List, [], ◌∷◌, ◌++◌, length}
+use Rattle.std.specs.Prelude.{◌≡◌, ℕ, ◌+◌, ◌^◌, Bool, true, false, cond, not, ◌&&◌, ◌||◌, nat_eq, nat_le, nat_lt, List, [], ◌∷◌, ◌++◌, length}
+use Rattle.std.specs.List.{list_any}
 use Rattle.emp_engine.specs.declared.outline.Outline.{Outline}
 use Rattle.emp_engine.specs.declared.outline.Term.{Term}
 use Rattle.emp_engine.specs.declared.outline.Product.{Product}
@@ -24,7 +25,7 @@ all_fit fits (x ∷ xs) = cond (fits x) (all_fit fits xs) false
 
 -- ---- names
 abbrev pub name_fits : List ℕ → Bool
-name_fits n = is_fresh same_name n keywords
+name_fits n = not (list_any (λ word. same_name n word) keywords)
 
 abbrev pub names_fit : List (List ℕ) → Bool
 names_fit ns = are_apart name_fits same_name ns

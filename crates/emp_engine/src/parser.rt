@@ -1,7 +1,8 @@
 //! From tokens to an outline.
 ghost use Rattle.std.specs.Prelude.{◌≡◌, ◌+◌, ◌<◌, ◌≤◌, ℕ, List, [], ◌∷◌, ◌++◌, length, drop, codes, IsTrue, ◌↔◌, MatchResult, cond, IfOk};
 ghost use Rattle.emp_engine.specs.Form.{SameName};
-ghost use Rattle.emp_engine.specs.Parsing.{Reads, Skips, Sees, multiple_then, find_then, same_name, find_name, after_called, after_sign, after_zero, name_then, separator_then, names_then, lead_then, product_then, terms_then, joint_then, sum_then, definition_then, definitions_then, head_then, all_then, solve_then, tail_then, opening_then, pairs_of};
+ghost use Rattle.emp_engine.specs.Parsing.{Reads, Skips, Sees, multiple_then, find_then, same_name, find_name, after_called, after_sign, after_zero, name_then, separator_then, names_then, lead_then, product_then, terms_then, joint_then, sum_then, definition_then, definitions_then, head_then, all_then, solve_then, tail_then, opening_then, pairs_of, Gives, body_of, info_of, outline_of};
+ghost use Rattle.emp_engine.specs.SaysOutline.{SaysOutline};
 
 mod sound;
 
@@ -10,6 +11,7 @@ use crate::outline::{Outline, Pair, Product, Term};
 use crate::token::{Sign, Token};
 use emp_list::name::Name;
 use emp_list::seq::Seq;
+use sound::is_sound;
 use std::alloc::Global;
 
 /// Whether two names are equal without case.
@@ -341,6 +343,70 @@ fn pairs(
         place = next;
     }
     Ok(found)
+}
+
+/// The model behind its lists of names.
+fn body(
+    alloc: Global,
+    tokens: &[Token],
+    at: usize,
+    variables: &[Name],
+    equations: &[Name],
+) -> Result<(Seq<Seq<Term>>, Name), ReadFault>
+    requires few { length variables.now ≤ 32 }
+    ensures { Gives result (body_of variables.now equations.now (drop at tokens.now)) }
+{
+    let (sums, after_sums) = definitions(alloc, tokens, at, variables, equations)?;
+    let (model, end) = tail(alloc, tokens, after_sums)?;
+    if end < tokens.len() {
+        return Err(ReadFault::OtherForm);
+    }
+    Ok((sums, model))
+}
+
+/// The pairs that the second text says.
+fn info(
+    alloc: Global,
+    tokens: &[Token],
+    variables: &[Name],
+    equations: &[Name],
+) -> Result<Seq<Pair>, ReadFault>
+    requires few_variables { length variables.now ≤ 32 }
+    requires few_equations { length equations.now ≤ 32 }
+    ensures { Gives result (info_of variables.now equations.now tokens.now) }
+{
+    let at = opening(tokens, 0)?;
+    pairs(alloc, tokens, at, variables, equations)
+}
+
+/// The outline that the tokens spell, which may be unsound.
+fn read(alloc: Global, model: &[Token], info_tokens: &[Token]) -> Result<Outline, ReadFault>
+    ensures { Gives result (outline_of model.now info_tokens.now) }
+{
+    let ((variables, equations), at) = head(alloc, model, 0)?;
+    if variables.len() > 32 || equations.len() > 32 {
+        return Err(ReadFault::OtherForm);
+    }
+    let (sums, name) = body(alloc, model, at, variables.as_slice(), equations.as_slice())?;
+    let pairs = info(alloc, info_tokens, variables.as_slice(), equations.as_slice())?;
+    Ok(Outline {
+        variables,
+        equations,
+        sums,
+        model: name,
+        pairs,
+    })
+}
+
+/// The outline that the tokens of the two texts say.
+pub fn outline(alloc: Global, model: &[Token], info: &[Token]) -> Result<Outline, ReadFault>
+    ensures { MatchResult result (λ o. SaysOutline model.now info.now o) (λ e. e ≡ ReadFault.OtherForm → (o : Outline) → SaysOutline model.now info.now o → ⊥) }
+{
+    let outline = read(alloc, model, info)?;
+    if !is_sound(&outline) {
+        return Err(ReadFault::OtherForm);
+    }
+    Ok(outline)
 }
 
 #[cfg(test)]

@@ -1,5 +1,6 @@
 //! Tests of what an outline says.
 ghost use Rattle.std.specs.Prelude.{◌≡◌, ◌+◌, ◌<◌, ◌≤◌, ℕ, List, [], ◌∷◌, ◌++◌, length, drop, codes, slice_index_or};
+ghost use Rattle.std.specs.List.{list_any};
 ghost use Rattle.emp_engine.specs.Form.{names_of};
 ghost use Rattle.emp_engine.specs.Parsing.{same_name};
 ghost use Rattle.emp_engine.specs.Soundness.{is_fresh, are_apart, all_fit, name_fits, names_fit, product_clash, term_clash, product_fits, term_fits, sum_fits, pair_clash, pair_fits, pairs_fit, counts_fit, is_sound_outline};
@@ -12,36 +13,31 @@ use emp_list::seq::Seq;
 /// The largest numeral of the form.
 const LARGEST: u64 = 1_000_000_000_000_000_000;
 
+/// The words that are no names.
+const KEYWORDS: [&str; 26] = [
+    "free", "positive", "negative", "binary", "integer", "semicont", "semiint", "sos1", "sos2",
+    "variable", "variables", "equation", "equations", "model", "solve", "equilibrium", "bilevel",
+    "min", "max", "vi", "dualvar", "visol", "implicit", "disjunction", "randvar", "stage",
+];
+
+/// Whether a name is one of the words without case.
+fn is_one_of(name: &[u8], words: &[&str]) -> bool
+    ensures { result ≡ list_any (λ word. same_name name.now word.now) words.now }
+{
+    for word in words {
+        if is_same_name(name, word.as_bytes()) {
+            return true;
+        }
+    }
+    false
+}
+
 /// Whether a name is no keyword.
 fn is_no_keyword(name: &[u8]) -> bool
     ensures { result ≡ name_fits name.now }
 {
-    !(is_same_name(name, b"free")
-        || is_same_name(name, b"positive")
-        || is_same_name(name, b"negative")
-        || is_same_name(name, b"binary")
-        || is_same_name(name, b"integer")
-        || is_same_name(name, b"semicont")
-        || is_same_name(name, b"semiint")
-        || is_same_name(name, b"sos1")
-        || is_same_name(name, b"sos2")
-        || is_same_name(name, b"variable")
-        || is_same_name(name, b"variables")
-        || is_same_name(name, b"equation")
-        || is_same_name(name, b"equations")
-        || is_same_name(name, b"model")
-        || is_same_name(name, b"solve")
-        || is_same_name(name, b"equilibrium")
-        || is_same_name(name, b"bilevel")
-        || is_same_name(name, b"min")
-        || is_same_name(name, b"max")
-        || is_same_name(name, b"vi")
-        || is_same_name(name, b"dualvar")
-        || is_same_name(name, b"visol")
-        || is_same_name(name, b"implicit")
-        || is_same_name(name, b"disjunction")
-        || is_same_name(name, b"randvar")
-        || is_same_name(name, b"stage"))
+    let words: [&str; 26] = KEYWORDS;
+    !is_one_of(name, words.as_slice())
 }
 
 /// A name of the outline, counted through variables, equations and the model.
