@@ -1,2 +1,4 @@
 pub mod ParsingSteps
 pub mod ParsingTests
+pub mod ParsingNames
+pub mod ParsingComplete

@@ -1,7 +1,9 @@
 -- The tests of an outline step by step along a list.
-use Rattle.std.proofs.Common.{◌≡◌, ℕ, ◌+◌, ◌<◌, ◌≤◌, Bool, true, false, cond, List, [], ◌∷◌, length, drop, get_or, refl, ap, sym, ◌∙◌, arith}
+use Rattle.std.proofs.Common.{◌≡◌, ℕ, ◌+◌, ◌<◌, ◌≤◌, Bool, true, false, cond, List, [], ◌∷◌, length, drop, get_or, refl, ap, sym, ◌∙◌, arith, Option, None, length-drop}
 use Rattle.std.proofs.lemmas.List.{drop_more, drop_all}
 use Rattle.emp_engine.specs.Soundness.{is_fresh, are_apart, all_fit}
+use Rattle.emp_engine.specs.declared.token.Token.{Token}
+use Rattle.emp_engine.specs.Parsing.{if_over}
 
 module _ {X : Type 0} (clash : X → X → Bool) (x : X) (ys : List X) (i : ℕ) where
   pub is_fresh-more : (y : X) → i < length ys → y ≡ get_or ys i y → clash x y ≡ false → is_fresh clash x (drop i ys) ≡ is_fresh clash x (drop (i + 1) ys)
@@ -39,3 +41,12 @@ module _ {X : Type 0} (fits : X → Bool) (clash : X → X → Bool) (xs : List 
   all_fit-end h = ap (all_fit fits) (drop_all i xs h)
 
 pub ruleset freshness = (is_fresh-more, is_fresh-not, is_fresh-end, are_apart-more, are_apart-clash, are_apart-not, are_apart-end, all_fit-more, all_fit-not, all_fit-end)
+
+pub if_over-not : {V : Type 0} (ts : List Token) (i : ℕ) (o : Option V) → i < length ts → if_over (drop i ts) o ≡ None
+if_over-not ts i o h = go (drop i ts) (omega (arith, length-drop i ts))
+  where
+    go : (us : List Token) → 0 < length us → if_over us o ≡ None
+    go [] p = absurd (omega arith)
+    go (u ∷ us) p = refl
+
+pub ruleset ending = (if_over-not)

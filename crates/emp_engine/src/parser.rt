@@ -346,6 +346,7 @@ fn pairs(
 }
 
 /// The model behind its lists of names.
+#[tactic(auto, using(crate::proofs::ParsingTests::ending))]
 fn body(
     alloc: Global,
     tokens: &[Token],
