@@ -2,3 +2,5 @@ pub mod ParsingSteps
 pub mod ParsingTests
 pub mod ParsingNames
 pub mod ParsingComplete
+pub mod ParsingWhole
+pub mod ParsingSound

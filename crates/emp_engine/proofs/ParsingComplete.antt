@@ -14,9 +14,9 @@ use Rattle.emp_engine.specs.declared.token.Token.TheVariants.{Word, Numeral, Sig
 use Rattle.emp_engine.specs.declared.token.Sign.{Sign}
 use Rattle.emp_engine.specs.declared.token.Sign.TheVariants.{Semicolon, Comma, Slash, Dots, Plus, Minus, Times, NoRelation}
 use Rattle.emp_engine.specs.Form.{Wanted, spelled, called, number, symbol, IsWanted, AllWanted, written_more_names, written_names, name_at, written_product, sign_between, written_more_terms, written_lead, written_sum, written_definitions, lower, SameName}
-use Rattle.emp_engine.specs.Parsing.{same_name, find_name, after_called, after_sign, after_zero, name_then, separator_then, names_then, lead_then, multiple_then, product_then, joint_then, terms_then, signed, sum_then, definition_then, definitions_then, sign_number, find_then, pairs_of}
+use Rattle.emp_engine.specs.Parsing.{same_name, find_name, after_called, after_sign, after_zero, name_then, separator_then, names_then, lead_then, multiple_then, product_then, joint_then, terms_then, signed, sum_then, definition_then, definitions_then, sign_number}
 use Rattle.emp_engine.proofs.ParsingNames.{same_to, find_name-is}
-use Rattle.emp_engine.proofs.ParsingSteps.{names_then-more, names_then-last, terms_then-more, terms_then-last, pairs_of-more, paired}
+use Rattle.emp_engine.proofs.ParsingSteps.{names_then-more, names_then-last, terms_then-more, terms_then-last}
 
 pub record Past (r : Option (List Token)) (ws : List Wanted) : Type 0 where
   pub left : List Token
@@ -89,6 +89,10 @@ IsDeclared count (Multiple n v) = v < count
 abbrev pub AllDeclared : ℕ → List Term → Type 0
 AllDeclared count [] = Unit {0}
 AllDeclared count (t ∷ ts) = IsDeclared count t.product × AllDeclared count ts
+
+abbrev pub AllSums : List (List ℕ) → List (List Term) → Type 0
+AllSums vars [] = Unit {0}
+AllSums vars (s ∷ ss) = (0 < length s) × AllDeclared (length vars) s × AllSums vars ss
 
 -- no `*` can follow
 abbrev Stops : List Wanted → Type 0
@@ -196,11 +200,7 @@ module _ (vars : List (List ℕ)) (apart : AllPairs (λ a b. lower a ≢ lower b
         fits = f.fits;
       }
 
-  abbrev pub AllSums : List (List Term) → Type 0
-  AllSums [] = Unit {0}
-  AllSums (s ∷ ss) = (0 < length s) × AllDeclared (length vars) s × AllSums ss
-
-  pub got_definitions : (ns : List (List ℕ)) (ss found : List (List Term)) (ts : List Token) (ws : List Wanted) → length ss ≡ length ns → AllSums ss → AllWanted (written_definitions vars ns ss ++ ws) ts → Got (definitions_then vars ns found ts) (found ++ ss) ws
+  pub got_definitions : (ns : List (List ℕ)) (ss found : List (List Term)) (ts : List Token) (ws : List Wanted) → length ss ≡ length ns → AllSums vars ss → AllWanted (written_definitions vars ns ss ++ ws) ts → Got (definitions_then vars ns found ts) (found ++ ss) ws
   got_definitions [] [] found ts ws e d h = record { left = ts; is = ap (λ zs. Some (zs, ts)) (sym (append-nil found)); fits = h }
   got_definitions [] (s ∷ ss) found ts ws e d h = absurd (omega arith)
   got_definitions (n ∷ ns) [] found ts ws e d h = absurd (omega arith)
