@@ -4,3 +4,4 @@ pub mod ParsingNames
 pub mod ParsingComplete
 pub mod ParsingWhole
 pub mod ParsingSound
+pub mod ParsingTested

@@ -1,3 +1,4 @@
+use Rattle.emp_engine.proofs.ParsingTested.{pairs_from}
 use Rattle.emp_engine.proofs.ParsingSound.{said_pairs}
 use Rattle.emp_engine.proofs.ParsingWhole.{complete}
 use Rattle.emp_engine.proofs.parser.outline.Goals as goal
