@@ -5,3 +5,4 @@ pub mod ParsingComplete
 pub mod ParsingWhole
 pub mod ParsingSound
 pub mod ParsingTested
+pub mod ParsingSays

@@ -56,7 +56,7 @@ past_solve n ws ts h =
     let e = past_sign Semicolon ws d.left d.fits in
     record { left = e.left; is = rw (a.is, b.is, c.is, d.is) e.is; fits = e.fits }
 
-abbrev tail_written : List ℕ → List Wanted
+abbrev pub tail_written : List ℕ → List Wanted
 tail_written n = (called (codes "model")) ∷ (spelled n) ∷ (symbol Slash) ∷ (called (codes "all")) ∷ (symbol Slash) ∷ (symbol Semicolon) ∷ (called (codes "solve")) ∷ (called n) ∷ (called (codes "using")) ∷ (called (codes "emp")) ∷ (symbol Semicolon) ∷ []
 
 got_tail : (n : List ℕ) (ts : List Token) → AllWanted (tail_written n) ts → Got (tail_then ts) n []
