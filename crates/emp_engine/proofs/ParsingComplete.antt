@@ -193,10 +193,10 @@ module _ (vars : List (List ℕ)) (apart : AllPairs (λ a b. lower a ≢ lower b
       record {
         left = f.left;
         is = ap (option_and_then (λ us. option_and_then (λ vs. option_and_then (λ p. option_and_then (after_semicolon p.0) (after_zero p.1)) (sum_then vars vs)) (after_sign Dots us))) a.is
-        ∙ ap (option_and_then (λ vs. option_and_then (λ p. option_and_then (after_semicolon p.0) (after_zero p.1)) (sum_then vars vs))) b.is
-        ∙ ap (option_and_then (λ p. option_and_then (after_semicolon p.0) (after_zero p.1))) c.is
-        ∙ ap (option_and_then (after_semicolon xs)) e.is
-        ∙ ap (option_and_then (λ ys. Some (xs, ys))) f.is;
+            ∙ ap (option_and_then (λ vs. option_and_then (λ p. option_and_then (after_semicolon p.0) (after_zero p.1)) (sum_then vars vs))) b.is
+            ∙ ap (option_and_then (λ p. option_and_then (after_semicolon p.0) (after_zero p.1))) c.is
+            ∙ ap (option_and_then (after_semicolon xs)) e.is
+            ∙ ap (option_and_then (λ ys. Some (xs, ys))) f.is;
         fits = f.fits;
       }
 

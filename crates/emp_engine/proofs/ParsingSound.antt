@@ -92,10 +92,10 @@ module _ (vars : List (List ℕ)) where
         rest = ys;
         is = r.is ∙ append_assoc found (signed b p ∷ []) ys;
         says = λ d ws k.
-        let more = written_more_terms vars r.rest in
-        let e = append_assoc (written_product vars r.product) more ((symbol NoRelation) ∷ ws) in
-        let tail = subst (λ zs. AllWanted zs us) (sym e) (r.says d.1 ws k) in
-        here d.0 ((written_product vars r.product ++ more) ++ (symbol NoRelation) ∷ ws) tail;
+            let more = written_more_terms vars r.rest in
+            let e = append_assoc (written_product vars r.product) more ((symbol NoRelation) ∷ ws) in
+            let tail = subst (λ zs. AllWanted zs us) (sym e) (r.says d.1 ws k) in
+            here d.0 ((written_product vars r.product ++ more) ++ (symbol NoRelation) ∷ ws) tail;
       }
 
   ended : (p : Product) (b : Bool) (found : List Term) (ts us : List Token) (v : List Term) (end : List Token) → (IsDeclared (length vars) p → (ws : List Wanted) → AllWanted ws us → AllWanted (written_product vars p ++ (symbol NoRelation) ∷ ws) ts) → found ++ signed b p ∷ [] ≡ v → us ≡ end → TermsSaid found b ts v end
@@ -172,9 +172,9 @@ module _ (vars : List (List ℕ)) where
         sums = p.0 ∷ r.sums;
         is = r.is ∙ append_assoc found (p.0 ∷ []) r.sums;
         says = λ d ws k.
-        let here = said_definition n ts p.0 p.1 e d.1 (written_definitions vars ns r.sums ++ ws) (r.says d.2 ws k) in
-        let end = (symbol NoRelation) ∷ (number 0) ∷ (symbol Semicolon) ∷ written_definitions vars ns r.sums in
-        subst (λ zs. AllWanted ((called n) ∷ (symbol Dots) ∷ zs) ts) (sym (append_assoc (written_sum vars p.0) end ws)) here;
+            let here = said_definition n ts p.0 p.1 e d.1 (written_definitions vars ns r.sums ++ ws) (r.says d.2 ws k) in
+            let end = (symbol NoRelation) ∷ (number 0) ∷ (symbol Semicolon) ∷ written_definitions vars ns r.sums in
+            subst (λ zs. AllWanted ((called n) ∷ (symbol Dots) ∷ zs) ts) (sym (append_assoc (written_sum vars p.0) end ws)) here;
       })
 
 -- ---- pairs
@@ -192,7 +192,7 @@ said_pairs o found (Word a ∷ Word b ∷ ts) v h =
       pairs = p ∷ r.pairs;
       is = r.is ∙ append_assoc found (p ∷ []) r.pairs;
       says = λ d.
-      let here = All-head (λ p. (p.equation < length o.equations) × (p.variable < length o.variables)) p r.pairs d in
-      (find_name-found o.equations a here.0, (find_name-found o.variables b here.1, r.says (All-tail (λ p. (p.equation < length o.equations) × (p.variable < length o.variables)) p r.pairs d)));
+          let here = All-head (λ p. (p.equation < length o.equations) × (p.variable < length o.variables)) p r.pairs d in
+          (find_name-found o.equations a here.0, (find_name-found o.variables b here.1, r.says (All-tail (λ p. (p.equation < length o.equations) × (p.variable < length o.variables)) p r.pairs d)));
     }
 said_pairs o found ts v h = absurd (cc)

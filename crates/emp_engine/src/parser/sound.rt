@@ -15,9 +15,32 @@ const LARGEST: u64 = 1_000_000_000_000_000_000;
 
 /// The words that are no names.
 const KEYWORDS: [&str; 26] = [
-    "free", "positive", "negative", "binary", "integer", "semicont", "semiint", "sos1", "sos2",
-    "variable", "variables", "equation", "equations", "model", "solve", "equilibrium", "bilevel",
-    "min", "max", "vi", "dualvar", "visol", "implicit", "disjunction", "randvar", "stage",
+    "free",
+    "positive",
+    "negative",
+    "binary",
+    "integer",
+    "semicont",
+    "semiint",
+    "sos1",
+    "sos2",
+    "variable",
+    "variables",
+    "equation",
+    "equations",
+    "model",
+    "solve",
+    "equilibrium",
+    "bilevel",
+    "min",
+    "max",
+    "vi",
+    "dualvar",
+    "visol",
+    "implicit",
+    "disjunction",
+    "randvar",
+    "stage",
 ];
 
 /// Whether a name is one of the words without case.
