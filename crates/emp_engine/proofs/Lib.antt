@@ -8,3 +8,11 @@ pub mod RunLemmas
 pub mod ThreeItems
 pub mod Loading
 pub mod Lexing
+pub mod ParsingSteps
+pub mod ParsingTests
+pub mod ParsingNames
+pub mod ParsingComplete
+pub mod ParsingWhole
+pub mod ParsingSound
+pub mod ParsingTested
+pub mod ParsingSays

@@ -6,3 +6,6 @@ pub mod Run
 pub mod Steps
 pub mod TokenList
 pub mod Cutting
+pub mod SaysOutline
+pub mod Parsing
+pub mod Soundness

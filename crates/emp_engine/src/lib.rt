@@ -6,6 +6,7 @@ pub mod fault;
 pub mod fault_line;
 pub mod lexer;
 pub mod outline;
+pub mod parser;
 pub mod report;
 pub mod rows;
 pub mod run;
