@@ -1,17 +1,9 @@
 -- The greatest common divisor as a function is the greatest common divisor.
 use Rattle.std.proofs.Common.{ℕ, zero, suc, ◌+◌, ◌%◌, ◌<◌, ◌≤◌, ◌≡◌, ℤ, pos, List, [], ◌∷◌, drop, get_or, length, unsigned_abs, arith, refl, ap, sym, ◌∙◌, mod-lt, mod-eq_of_lt, zero-lt-suc, to_z-of_z}
-<<<<<<< HEAD
-use Prim.Native.Nat.{◌∣◌}
-use Rattle.std.specs.Int.{IsGcd}
-use Rattle.std.proofs.lemmas.List.{drop_more, drop_all}
-use Rattle.std.proofs.lemmas.Nat.Gcd.{IsGcd-from_zero, IsGcd-from_mod, same_from_IsGcd}
-use Rattle.emp_num.specs.Gcd.{gcd_within, gcd_of, content_from, content_of}
-=======
 use Rattle.std.specs.Int.{IsGcd}
 use Rattle.std.proofs.lemmas.List.{drop_more, drop_all}
 use Rattle.std.proofs.lemmas.Nat.Gcd.{IsGcd-from_zero, IsGcd-from_mod, same_from_IsGcd}
 use Rattle.emp_num.specs.Gcd.{gcd_within, gcd_of, content_from}
->>>>>>> 6accf8af6de26a345bb8c60907b647d96538109a
 
 -- enough of Euclid's steps give the greatest common divisor
 pub IsGcd-within : (steps a b : ℕ) → b < steps → IsGcd a b (gcd_within steps a b)

@@ -1,21 +1,4 @@
 -- One step of the walk: what it keeps of the tableau, and what it says of the whole walk.
-<<<<<<< HEAD
-use Rattle.std.proofs.Common.{ℕ, zero, suc, ◌+◌, ◌-◌, ◌<◌, ◌≤◌, ◌^◌, ◌≡◌, ◌≢◌, ℤ, pos, ◌*ℤ◌, ◌<ℤ◌, unsigned_abs, Bool, true, false, cond, List, [], ◌∷◌, ◌++◌, Option, Some, None, set, get_or, length, map, arith, refl, ap, sym, subst, subst₂, ◌∙◌, nat_eq, to_z-of_z, length-set}
-use Rattle.std.specs.List.{All}
-use Rattle.std.proofs.lemmas.List.{length-map}
-use Rattle.std.proofs.lemmas.Int.{ints}
-use Rattle.std.proofs.lemmas.List.Elements.{All-nil, All-cons, All-head, All-tail, All-set, All-map}
-use Rattle.emp_algebra.specs.Vector.{cell}
-use Rattle.emp_num.specs.Exact.{IsNarrow}
-use Rattle.emp_num.specs.declared.frac.Frac.{Frac}
-use Rattle.emp_rows.specs.declared.affine.Affine.{Affine}
-use Rattle.emp_rows.specs.declared.line.Line.{Line}
-use Rattle.emp_rows.specs.declared.walk.Label.{Label}
-use Rattle.emp_rows.specs.declared.walk.Label.TheVariants.{Base, Quantity}
-use Rattle.emp_rows.specs.declared.walk.Verdict.{Verdict}
-use Rattle.emp_rows.specs.declared.walk.Verdict.TheVariants.{Point, Missing, Wide}
-use Rattle.emp_rows.specs.declared.walk.Step.{Step}
-=======
 use Rattle.std.proofs.Common.{ℕ, zero, suc, ◌+◌, ◌-◌, ◌<◌, ◌≤◌, ◌≡◌, ◌≢◌, ℤ, pos, Bool, true, false, cond, List, [], ◌∷◌, Option, Some, None, set, get_or, length, map, arith, refl, ap, sym, subst, subst₂, ◌∙◌, nat_eq, length-set}
 use Rattle.std.specs.List.{All}
 use Rattle.std.proofs.lemmas.List.{length-map}
@@ -28,17 +11,12 @@ use Rattle.emp_rows.specs.declared.line.Line.{Line}
 use Rattle.emp_rows.specs.declared.walk.Label.TheVariants.{Base, Quantity}
 use Rattle.emp_rows.specs.declared.walk.Verdict.{Verdict}
 use Rattle.emp_rows.specs.declared.walk.Verdict.TheVariants.{Point, Missing, Wide}
->>>>>>> 6accf8af6de26a345bb8c60907b647d96538109a
 use Rattle.emp_rows.specs.declared.walk.Step.TheVariants.{Fixed, Ended}
 use Rattle.emp_rows.specs.declared.walk.Tableau.{Tableau}
 use Rattle.emp_rows.specs.Affine.{IsRow}
 use Rattle.emp_rows.specs.Pivot.{is_zero, factors, combined, combination_wide, reduced, moved, both_there, pivoted_from, pivoted, turned, no_line}
 use Rattle.emp_rows.specs.Steps.{IsLine, line_after}
-<<<<<<< HEAD
-use Rattle.emp_rows.specs.Walk.{Dictionary, Decision, IsVerdict, ArePoint, bases_from, quantities_from, line_of, first_free, deciding_factors, exchanged, line_at, start, walk_from, by_choice, by_pivot, solved, refuted, too_wide}
-=======
 use Rattle.emp_rows.specs.Walk.{Dictionary, Decision, IsVerdict, ArePoint, bases_from, quantities_from, line_of, first_free, deciding_factors, exchanged, line_at, start, walk_from, by_choice, by_pivot, refuted}
->>>>>>> 6accf8af6de26a345bb8c60907b647d96538109a
 use Rattle.emp_rows.specs.Tableau.{IsTableau, IsLabel, StepGoes, dictionary_of}
 use Rattle.emp_rows.proofs.Steps.{zero_yes, zero_no}
 use Rattle.emp_rows.proofs.Sound.{combined_sound, reduced_sound, turned_sound, own_positive}
@@ -170,18 +148,11 @@ pub pivot_goes : (s t : Tableau) (k p j : ℕ) (lines : List Line) → IsTableau
 pivot_goes s t k p j lines h l e q x =
     let n = needs (length s.lines) (length s.columns) s k j h l e in
     let line = h.lines k no_line l in
-<<<<<<< HEAD
-    let kept = pivoted_from_sound (length s.columns) 0 (turned (get_or s.lines k no_line) j) k j s.lines lines (turned_sound (length s.columns) (get_or s.lines k no_line) j line (subst (λ w. j < w) line.width n.column) n.nonzero) h.lines q in
-    (λ left. step_some left k p j (dictionary_of s) e ∙ (ap (by_pivot (walk_from left (k + 1)) k j p (dictionary_of s)) q ∙ ap (walk_from left (k + 1) (p + 1)) (sym x)),
-    exchanged_sound (length s.lines) (length s.columns) s t k j lines h l (subst (λ w. j < w) line.width n.column) kept.0 kept.1 x,
-    omega arith)
-=======
     let kept = pivoted_from_sound (length s.columns) 0 (turned (get_or s.lines k no_line) j) k j s.lines lines (turned_sound (length s.columns) (get_or s.lines k no_line) j line (subst (λ w. j < w) line.width n.column) n.nonzero) h.lines q in (
       λ left. step_some left k p j (dictionary_of s) e ∙ (ap (by_pivot (walk_from left (k + 1)) k j p (dictionary_of s)) q ∙ ap (walk_from left (k + 1) (p + 1)) (sym x)),
       exchanged_sound (length s.lines) (length s.columns) s t k j lines h l (subst (λ w. j < w) line.width n.column) kept.0 kept.1 x,
       omega arith,
     )
->>>>>>> 6accf8af6de26a345bb8c60907b647d96538109a
 
 -- ---- the whole walk
 pub own_sound : (n m : ℕ) (s : Tableau) → IsTableau n m s → IsTableau (length s.lines) (length s.columns) s

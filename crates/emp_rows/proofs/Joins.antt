@@ -1,25 +1,15 @@
 -- The lines of a pivot put together from what the steps give.
 use Rattle.std.proofs.Common.{ℕ, zero, suc, ◌+◌, ◌<◌, ◌≤◌, ◌^◌, ◌≡◌, ◌≢◌, ℤ, pos, negsuc, neg_ℤ, ◌+ℤ◌, ◌*ℤ◌, ◌<ℤ◌, unsigned_abs, int_div, Bool, true, false, cond, ◌||◌, List, [], ◌∷◌, ◌++◌, Option, Some, None, Result, Ok, Err, MatchResult, IfOk, drop, set, get_or, length, arith, refl, ap, sym, subst, ◌∙◌, nat_eq, to_z-of_z, append_assoc}
 use Rattle.std.specs.List.{All}
-<<<<<<< HEAD
-use Rattle.std.proofs.lemmas.List.{drop_more, drop_all, append-nil, get_or_read, get_or_default}
-use Rattle.std.proofs.lemmas.Int.{ints}
-=======
 use Rattle.std.proofs.lemmas.List.{drop_more, drop_all, append-nil, get_or_read}
->>>>>>> 6accf8af6de26a345bb8c60907b647d96538109a
 use Rattle.emp_algebra.specs.Vector.{cell, scale, add_rows}
 use Rattle.emp_algebra.proofs.Laws.{one-*ℤ, neg_ℤ-*ℤ}
 use Rattle.emp_num.specs.Exact.{IsNarrow, IsWide}
 use Rattle.emp_num.specs.Gcd.{gcd_of}
 use Rattle.emp_num.specs.declared.exact.Wide.{Wide as WideNumber}
 use Rattle.emp_rows.specs.declared.line.Line.{Line}
-<<<<<<< HEAD
-use Rattle.emp_rows.specs.Pivot.{sign, is_wide, turned, Factors, factors, combined, step_wide, steps_wide, combination_wide, moved, both_there, pivoted_from, pivoted, no_line}
-use Rattle.emp_rows.specs.Steps.{IsLine, StepGives, Gives, line_after}
-=======
 use Rattle.emp_rows.specs.Pivot.{sign, is_wide, turned, Factors, factors, combined, step_wide, steps_wide, combination_wide, both_there, pivoted_from, no_line}
 use Rattle.emp_rows.specs.Steps.{IsLine, StepGives, line_after}
->>>>>>> 6accf8af6de26a345bb8c60907b647d96538109a
 use Rattle.emp_rows.proofs.Steps.{wide_yes, wide_no, or-true, wide_sum, none_wide}
 use Rattle.emp_rows.proofs.Sound.{combined_sound, turned_sound}
 

@@ -1,9 +1,5 @@
 -- A row divided by what its numbers have in common: its numbers are narrow, and it is 0 at the same points.
-<<<<<<< HEAD
-use Rattle.std.proofs.Common.{ℕ, zero, suc, ◌+◌, ◌<◌, ◌≤◌, ◌^◌, ◌≡◌, ◌↔◌, ℤ, pos, ◌+ℤ◌, ◌*ℤ◌, ◌<ℤ◌, unsigned_abs, int_div, List, [], ◌∷◌, Result, Ok, Err, IfOk, length, arith, refl, ap, sym, subst, ◌∙◌, zero-lt-suc}
-=======
 use Rattle.std.proofs.Common.{ℕ, zero, suc, ◌<◌, ◌≡◌, ◌↔◌, ℤ, pos, ◌+ℤ◌, ◌*ℤ◌, ◌<ℤ◌, unsigned_abs, int_div, List, [], ◌∷◌, Result, Ok, Err, IfOk, length, arith, refl, ap, sym, ◌∙◌}
->>>>>>> 6accf8af6de26a345bb8c60907b647d96538109a
 use Prim.Native.Nat.{◌∣◌}
 use native.Mathlib.Nat.{one-dvd}
 use lib.IntN.{zero-*ℤ}
@@ -18,10 +14,6 @@ use Rattle.emp_num.specs.Exact.{IsNarrow}
 use Rattle.emp_num.specs.Gcd.{gcd_of, content_from, content_of}
 use Rattle.emp_num.proofs.Gcds.{gcd_below, quot_exact}
 use Rattle.emp_num.proofs.Divisors.{IsGcd-gcd_of}
-<<<<<<< HEAD
-use Rattle.emp_rows.specs.declared.affine.Affine.{Affine}
-=======
->>>>>>> 6accf8af6de26a345bb8c60907b647d96538109a
 use Rattle.emp_rows.specs.Affine.{IsRow, value_times, divisor_of, quotients, primitive_of}
 use Rattle.emp_rows.proofs.Sound.{quotient_narrow}
 
@@ -71,16 +63,10 @@ value_is cells constant d xs =
 
 pub primitive_zeros : (cells : List ℤ) (constant d : ℤ) (xs : List ℤ) → (value_times (primitive_of cells constant) d xs ≡ pos 0) ↔ (constant *ℤ d +ℤ dot cells xs ≡ pos 0)
 primitive_zeros cells constant d xs =
-<<<<<<< HEAD
-    let g : ℤ = divisor_of (content_of (constant ∷ cells)) in
-    (λ e. sym (value_is cells constant d xs) ∙ (ap (λ v. v *ℤ divisor_of (content_of (constant ∷ cells))) e ∙ zero-*ℤ (divisor_of (content_of (constant ∷ cells)))),
-    λ e. cancel_right (value_times (primitive_of cells constant) d xs) (pos 0) (divisor_of (content_of (constant ∷ cells))) (value_is cells constant d xs ∙ (e ∙ sym (zero-*ℤ (divisor_of (content_of (constant ∷ cells)))))) (divisor_above (content_of (constant ∷ cells))))
-=======
     let g : ℤ = divisor_of (content_of (constant ∷ cells)) in (
       λ e. sym (value_is cells constant d xs) ∙ (ap (λ v. v *ℤ divisor_of (content_of (constant ∷ cells))) e ∙ zero-*ℤ (divisor_of (content_of (constant ∷ cells)))),
       λ e. cancel_right (value_times (primitive_of cells constant) d xs) (pos 0) (divisor_of (content_of (constant ∷ cells))) (value_is cells constant d xs ∙ (e ∙ sym (zero-*ℤ (divisor_of (content_of (constant ∷ cells)))))) (divisor_above (content_of (constant ∷ cells))),
     )
->>>>>>> 6accf8af6de26a345bb8c60907b647d96538109a
 
 narrow_part : (n : ℕ) (z : ℤ) → IsNarrow z → IsNarrow (int_div z (divisor_of n))
 narrow_part zero z h = quotient_narrow z 1 h

@@ -1,16 +1,8 @@
 -- What the steps of a pivot keep: denominators above 0, narrow numbers, the number of columns.
-<<<<<<< HEAD
-use Rattle.std.proofs.Common.{ℕ, zero, suc, ◌+◌, ◌*◌, ◌/◌, ◌<◌, ◌≤◌, ◌^◌, ◌≡◌, ◌≢◌, ℤ, pos, negsuc, neg_ℤ, ◌+ℤ◌, ◌*ℤ◌, ◌<ℤ◌, unsigned_abs, int_div, Bool, true, false, cond, ◌||◌, List, [], ◌∷◌, ◌++◌, Option, Some, None, set, get_or, length, arith, refl, ap, sym, subst, ◌∙◌, nat_eq, length-set}
-use Prim.Native.Nat.{◌∣◌}
-use native.Mathlib.Nat.{pos_of_dvd_of_pos}
-use Rattle.std.specs.List.{All}
-use Rattle.std.specs.Int.{IsGcd}
-=======
 use Rattle.std.proofs.Common.{ℕ, zero, suc, ◌<◌, ◌≤◌, ◌^◌, ◌≡◌, ◌≢◌, ℤ, pos, negsuc, neg_ℤ, ◌+ℤ◌, ◌*ℤ◌, ◌<ℤ◌, unsigned_abs, int_div, false, ◌||◌, List, [], ◌∷◌, set, length, arith, refl, ap, sym, subst, ◌∙◌, length-set}
 use Prim.Native.Nat.{◌∣◌}
 use native.Mathlib.Nat.{pos_of_dvd_of_pos}
 use Rattle.std.specs.List.{All}
->>>>>>> 6accf8af6de26a345bb8c60907b647d96538109a
 use Rattle.std.proofs.lemmas.Int.{ints}
 use Rattle.std.proofs.Math.Nat.{div-le_self}
 use Rattle.std.proofs.lemmas.Nat.Gcd.{dvd_refl, dvd_trans, le_of_dvd}
@@ -23,11 +15,7 @@ use Rattle.emp_num.specs.Gcd.{gcd_of, content_from, content_of}
 use Rattle.emp_num.proofs.Gcds.{quot_exact, positive_from_product}
 use Rattle.emp_num.proofs.Divisors.{IsGcd-gcd_of, gcd_of_zero}
 use Rattle.emp_rows.specs.declared.line.Line.{Line}
-<<<<<<< HEAD
-use Rattle.emp_rows.specs.Pivot.{sign, is_zero, is_wide, quotients, line_content, reduced, turned, turned_by, Factors, factors, combined, step_wide, steps_wide, combination_wide, moved, both_there, pivoted_from, pivoted, no_line}
-=======
 use Rattle.emp_rows.specs.Pivot.{sign, is_wide, quotients, line_content, reduced, turned, Factors, factors, combined, step_wide, steps_wide, combination_wide}
->>>>>>> 6accf8af6de26a345bb8c60907b647d96538109a
 use Rattle.emp_rows.specs.Steps.{IsLine}
 use Rattle.emp_rows.proofs.Steps.{narrow_from, or_left, or_right}
 

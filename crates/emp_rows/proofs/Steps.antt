@@ -4,10 +4,6 @@ use Rattle.std.proofs.lemmas.Bool.{lt-leb}
 use Rattle.std.proofs.lemmas.List.{drop_more, drop_all, append-nil}
 use Rattle.std.proofs.lemmas.Int.{ints}
 use Rattle.emp_algebra.specs.Vector.{cell, scale, add_rows}
-<<<<<<< HEAD
-use Rattle.emp_algebra.proofs.Laws.{one-*ℤ, neg_ℤ-*ℤ}
-=======
->>>>>>> 6accf8af6de26a345bb8c60907b647d96538109a
 use Rattle.emp_num.specs.Exact.{IsNarrow, IsWide}
 use Rattle.emp_rows.specs.Pivot.{sign, is_zero, is_wide, Factors, step_wide, steps_wide}
 

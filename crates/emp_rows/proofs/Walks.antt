@@ -1,16 +1,7 @@
 -- The walk's steps: labels and lines that are built, the column that is chosen, the factors, the values, the soundness of the tableau.
 use Rattle.std.proofs.Common.{ℕ, zero, suc, ◌+◌, ◌<◌, ◌≤◌, ◌^◌, ◌≡◌, ◌≢◌, ℤ, pos, negsuc, neg_ℤ, ◌+ℤ◌, ◌*ℤ◌, ◌<ℤ◌, unsigned_abs, Bool, true, false, cond, ◌&&◌, not, List, [], ◌∷◌, ◌++◌, Option, Some, None, drop, set, get_or, length, map, replicate, arith, refl, ap, sym, subst, ◌∙◌, nat_eq, to_z-of_z, append_assoc, add-one, add-suc, suc-add, zero-add, add-zero, below_more, length-set, length-append}
-<<<<<<< HEAD
-use Rattle.std.specs.List.{All}
-use Rattle.std.proofs.lemmas.List.{drop_more, drop_all, append-nil, get_or_read, get_or_default, length_push, get_or_push, get_or_append_left, replicate_more, length-map, length-replicate}
-use Rattle.std.proofs.lemmas.Int.{ints}
-use Rattle.std.proofs.lemmas.List.Elements.{All-nil, All-cons, All-head, All-tail, All-set, All-get_or}
-use Rattle.emp_algebra.specs.Vector.{cell}
-use Rattle.emp_num.specs.Exact.{IsNarrow}
-=======
 use Rattle.std.proofs.lemmas.List.{drop_more, drop_all, append-nil, length_push, get_or_push, get_or_append_left, replicate_more}
 use Rattle.emp_algebra.specs.Vector.{cell}
->>>>>>> 6accf8af6de26a345bb8c60907b647d96538109a
 use Rattle.emp_num.specs.FracSpec.{IsQuotient}
 use Rattle.emp_num.specs.declared.frac.Frac.{Frac}
 use Rattle.emp_num.specs.Ratio.{Ratio, ratio}
@@ -18,20 +9,9 @@ use Rattle.emp_rows.specs.declared.affine.Affine.{Affine}
 use Rattle.emp_rows.specs.declared.line.Line.{Line}
 use Rattle.emp_rows.specs.declared.walk.Label.{Label}
 use Rattle.emp_rows.specs.declared.walk.Label.TheVariants.{Base, Quantity}
-<<<<<<< HEAD
-use Rattle.emp_rows.specs.declared.walk.Tableau.{Tableau}
-use Rattle.emp_rows.specs.Affine.{IsRow}
-use Rattle.emp_rows.specs.Pivot.{sign, is_zero, factors, combined, combination_wide, reduced, moved, both_there, pivoted_from, pivoted, turned, no_line}
-use Rattle.emp_rows.specs.Steps.{IsLine}
-use Rattle.emp_rows.specs.Walk.{Dictionary, Decision, IsVerdict, is_free, bases_from, quantities_from, line_of, first_free, column_factors, deciding_factors, exchanged, line_at, start, value_in, walk_from, by_choice, by_pivot, solved, refuted, too_wide}
-use Rattle.emp_rows.specs.Tableau.{IsTableau, IsLabel, AreValues, dictionary_of, no_label, opens, names_base, placed}
-use Rattle.emp_rows.proofs.Steps.{push_more, zero_no}
-use Rattle.emp_rows.proofs.Sound.{combined_sound, reduced_sound, turned_sound, own_positive}
-=======
 use Rattle.emp_rows.specs.Pivot.{is_zero, no_line}
 use Rattle.emp_rows.specs.Walk.{bases_from, quantities_from, line_of, first_free, column_factors, value_in}
 use Rattle.emp_rows.specs.Tableau.{AreValues, no_label, opens, names_base, placed}
->>>>>>> 6accf8af6de26a345bb8c60907b647d96538109a
 
 -- ---- labels
 bases_last : (at n : ℕ) → bases_from at (suc n) ≡ bases_from at n ++ Base (at + n) ∷ []
@@ -158,13 +138,8 @@ pub values_more : (rs : List Label) (ls : List Line) (n : ℕ) (out : List Frac)
 values_more rs ls n out x v q = record {
   count = length_push out x ∙ ap (λ k. k + 1) v.count;
   values = λ b f. below_more (λ k. IsQuotient (get_or (out ++ x ∷ []) k f) (value_in rs ls k).top (value_in rs ls k).bottom) n
-<<<<<<< HEAD
-    (λ k h. subst (λ (y : Frac). IsQuotient y (value_in rs ls k).top (value_in rs ls k).bottom) (sym (get_or_append_left out (x ∷ []) f k (omega (arith, v.count)))) (v.values k f h))
-    (subst (λ (y : Frac). IsQuotient y (value_in rs ls n).top (value_in rs ls n).bottom) (sym (get_or_push out x f n v.count)) q) b;
-=======
       (λ k h. subst (λ (y : Frac). IsQuotient y (value_in rs ls k).top (value_in rs ls k).bottom) (sym (get_or_append_left out (x ∷ []) f k (omega (arith, v.count)))) (v.values k f h))
       (subst (λ (y : Frac). IsQuotient y (value_in rs ls n).top (value_in rs ls n).bottom) (sym (get_or_push out x f n v.count)) q) b;
->>>>>>> 6accf8af6de26a345bb8c60907b647d96538109a
 }
 
 pub ruleset pointing = (values_start, values_more)

@@ -1,9 +1,5 @@
 -- What the steps of a pivot keep and give.
-<<<<<<< HEAD
-use Rattle.std.specs.Prelude.{◌≡◌, ℕ, ℤ, pos, ◌+ℤ◌, ◌*ℤ◌, ◌<ℤ◌, Bool, true, false, cond, List, length, Option, Some, None, Result, Ok, Err, nat_eq}
-=======
 use Rattle.std.specs.Prelude.{◌≡◌, ℕ, ℤ, pos, ◌+ℤ◌, ◌*ℤ◌, ◌<ℤ◌, Bool, true, false, cond, length, Option, Some, None, Result, Ok, Err, nat_eq}
->>>>>>> 6accf8af6de26a345bb8c60907b647d96538109a
 use Rattle.std.specs.List.{All}
 use Rattle.emp_num.specs.Exact.{IsNarrow}
 use Rattle.emp_num.specs.declared.exact.Wide.{Wide as WideNumber}

@@ -1,19 +1,11 @@
 -- What the walk's code keeps in its tableau.
-<<<<<<< HEAD
-use Rattle.std.specs.Prelude.{◌≡◌, ℕ, suc, ◌<◌, ◌≤◌, ◌+◌, ℤ, pos, ◌*ℤ◌, Bool, true, false, not, ◌&&◌, nat_eq, List, length, slice_set, slice_index_or}
-=======
 use Rattle.std.specs.Prelude.{◌≡◌, ℕ, suc, ◌<◌, ◌≤◌, ◌+◌, ℤ, ◌*ℤ◌, Bool, false, not, ◌&&◌, nat_eq, List, length, slice_set, slice_index_or}
->>>>>>> 6accf8af6de26a345bb8c60907b647d96538109a
 use Rattle.std.specs.List.{All}
 use Rattle.emp_num.specs.FracSpec.{IsQuotient}
 use Rattle.emp_num.specs.declared.frac.Frac.{Frac}
 use Rattle.emp_rows.specs.Steps.{IsLine}
 use Rattle.emp_rows.specs.Pivot.{is_zero}
-<<<<<<< HEAD
-use Rattle.emp_rows.specs.Walk.{Dictionary, Decision, IsVerdict, is_free, value_in, walk_from}
-=======
 use Rattle.emp_rows.specs.Walk.{Dictionary, IsVerdict, is_free, value_in, walk_from}
->>>>>>> 6accf8af6de26a345bb8c60907b647d96538109a
 use Rattle.emp_rows.specs.declared.line.Line.{Line}
 use Rattle.emp_rows.specs.declared.walk.Label.{Label}
 use Rattle.emp_rows.specs.declared.walk.Label.TheVariants.{Base, Quantity}
@@ -39,10 +31,7 @@ pub record IsTableau (n m : ℕ) (t : Tableau) : Type 0 where
   pub row_labels : All (IsLabel n) t.rows
   pub column_labels : All (IsLabel n) t.columns
 
-<<<<<<< HEAD
-=======
 -- what a list of labels is read as past its end
->>>>>>> 6accf8af6de26a345bb8c60907b647d96538109a
 abbrev pub no_label : Label
 no_label = Base 0
 

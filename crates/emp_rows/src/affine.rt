@@ -49,15 +49,7 @@ impl Affine {
     /// The row with these numbers divided by their greatest common divisor.
     ///
     /// It is 0 at the same points. A row of zeros stays. The only error is that no memory is left.
-<<<<<<< HEAD
-    pub fn primitive(
-        alloc: Global,
-        cells: &[i128],
-        constant: i128,
-    ) -> Result<Affine, AllocError>
-=======
     pub fn primitive(alloc: Global, cells: &[i128], constant: i128) -> Result<Affine, AllocError>
->>>>>>> 6accf8af6de26a345bb8c60907b647d96538109a
         requires cells { All IsNarrow cells.now }
         requires constant { IsNarrow constant }
         ensures value { IfOk result (λ r. r ≡ primitive_of cells.now constant) }

@@ -58,11 +58,7 @@ struct Multipliers {
     other: i128,
 }
 
-<<<<<<< HEAD
-/// `number` with the sign of `of`, and 0 for the sign of 0.
-=======
 /// `number` times the sign of `of`, which is not 0.
->>>>>>> 6accf8af6de26a345bb8c60907b647d96538109a
 pub fn with_sign(of: i128, number: i128) -> i128
     requires nonzero { of ≢ pos 0 }
     requires narrow { IsNarrow number }
@@ -71,11 +67,7 @@ pub fn with_sign(of: i128, number: i128) -> i128
     if of > 0 { number } else { -number }
 }
 
-<<<<<<< HEAD
-/// `number` with the sign that `of` has not.
-=======
 /// `number` times the opposite of the sign of `of`, which is not 0.
->>>>>>> 6accf8af6de26a345bb8c60907b647d96538109a
 pub fn against_sign(of: i128, number: i128) -> i128
     requires nonzero { of ≢ pos 0 }
     requires narrow { IsNarrow number }
@@ -106,11 +98,7 @@ fn struck(alloc: Global, row: &[i128], column: usize) -> Result<Seq<i128>, Alloc
     Ok(out)
 }
 
-<<<<<<< HEAD
-/// The cell of `line` at `at`, with the sign that its cell in `column` has not.
-=======
 /// The cell of `line` at `at`, times the opposite of the sign of its cell in `column`.
->>>>>>> 6accf8af6de26a345bb8c60907b647d96538109a
 fn turned_cell(line: &Line, column: usize, at: usize) -> i128
     requires sound { IsLine (length line.now.cells) line.now }
     requires column { column < length line.now.cells }
@@ -181,16 +169,7 @@ fn step(multipliers: Multipliers, own: i128, other: i128) -> Result<i128, Wide>
 }
 
 /// The step at one column.
-<<<<<<< HEAD
-fn step_at(
-    multipliers: Multipliers,
-    own: &[i128],
-    other: &[i128],
-    at: usize,
-) -> Result<i128, Wide>
-=======
 fn step_at(multipliers: Multipliers, own: &[i128], other: &[i128], at: usize) -> Result<i128, Wide>
->>>>>>> 6accf8af6de26a345bb8c60907b647d96538109a
     requires own { at < length own.now }
     requires other { at < length other.now }
     ensures { StepGives (factors_of multipliers) (cell own.now at) (cell other.now at) result }
@@ -233,15 +212,11 @@ fn combined(
     let constant = step(multipliers, line.constant, turned.constant)?;
     let own = struck(alloc, line.cells.as_slice(), column)?;
     let cells = combined_cells(alloc, multipliers, own.as_slice(), turned.cells.as_slice())?;
-<<<<<<< HEAD
-    Ok(Line { denom, constant, cells })
-=======
     Ok(Line {
         denom,
         constant,
         cells,
     })
->>>>>>> 6accf8af6de26a345bb8c60907b647d96538109a
 }
 
 impl Line {
@@ -282,16 +257,7 @@ impl Line {
 }
 
 /// Another line after the pivot.
-<<<<<<< HEAD
-fn moved(
-    alloc: Global,
-    turned: &Line,
-    column: usize,
-    line: &Line,
-) -> Result<Line, PivotFault>
-=======
 fn moved(alloc: Global, turned: &Line, column: usize, line: &Line) -> Result<Line, PivotFault>
->>>>>>> 6accf8af6de26a345bb8c60907b647d96538109a
     requires line { IsLine (length line.now.cells) line.now }
     requires turned { IsLine (length line.now.cells) turned.now }
     requires column { column < length line.now.cells }
@@ -300,9 +266,6 @@ fn moved(alloc: Global, turned: &Line, column: usize, line: &Line) -> Result<Lin
     if line.cells.as_slice()[column] == 0 {
         return Ok(line.copied(alloc)?);
     }
-<<<<<<< HEAD
-    let whole = combined(alloc, multipliers_for(turned, line, column), line, turned, column)?;
-=======
     let whole = combined(
         alloc,
         multipliers_for(turned, line, column),
@@ -310,7 +273,6 @@ fn moved(alloc: Global, turned: &Line, column: usize, line: &Line) -> Result<Lin
         turned,
         column,
     )?;
->>>>>>> 6accf8af6de26a345bb8c60907b647d96538109a
     Ok(whole.reduced(alloc)?)
 }
 

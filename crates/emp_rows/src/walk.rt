@@ -141,16 +141,7 @@ fn zeros(alloc: Global, count: usize) -> Result<Seq<i128>, AllocError>
 }
 
 /// The factors with that of the column at `at` put in, if the column is a quantity's.
-<<<<<<< HEAD
-fn with_factor(
-    factors: Seq<i128>,
-    line: &Line,
-    columns: &[Label],
-    at: usize,
-) -> Seq<i128>
-=======
 fn with_factor(factors: Seq<i128>, line: &Line, columns: &[Label], at: usize) -> Seq<i128>
->>>>>>> 6accf8af6de26a345bb8c60907b647d96538109a
     requires line { IsLine (length columns.now) line.now }
     requires nonzero { line.now.constant ≢ pos 0 }
     requires at { at < length columns.now }
@@ -298,16 +289,7 @@ impl Tableau {
     }
 
     /// The lines after the exchange of a line's quantity with a column's.
-<<<<<<< HEAD
-    fn pivoted(
-        &self,
-        alloc: Global,
-        row: usize,
-        column: usize,
-    ) -> Result<Seq<Line>, PivotFault>
-=======
     fn pivoted(&self, alloc: Global, row: usize, column: usize) -> Result<Seq<Line>, PivotFault>
->>>>>>> 6accf8af6de26a345bb8c60907b647d96538109a
         requires sound { IsTableau (length self.now.lines) (length self.now.columns) self.now }
         requires row { row < length self.now.lines }
         requires free { first_free 0 self.now.columns (line_at (dictionary_of self.now) row).cells ≡ Some column }
@@ -437,10 +419,7 @@ mod tests {
         }
     }
 
-<<<<<<< HEAD
-=======
     /// Whether the verdict is that there is no point, by these factors.
->>>>>>> 6accf8af6de26a345bb8c60907b647d96538109a
     fn is_missing(verdict: &Verdict, made: u64, first: i128, second: i128) -> bool {
         match verdict {
             Verdict::Missing(pivots, factors) => {
@@ -450,10 +429,7 @@ mod tests {
         }
     }
 
-<<<<<<< HEAD
-=======
     /// Whether the verdict is that this pivot is too wide.
->>>>>>> 6accf8af6de26a345bb8c60907b647d96538109a
     fn is_wide(verdict: &Verdict, at: u64) -> bool {
         match verdict {
             Verdict::Wide(pivot) => *pivot == at,

@@ -1,8 +1,4 @@
-<<<<<<< HEAD
-use Rattle.std.proofs.Common.{ℕ, ◌≡◌, ◌∙◌, pos, get_or, unsigned_abs, arith, rules, subst}
-=======
 use Rattle.std.proofs.Common.{◌≡◌, ◌∙◌, pos, get_or, unsigned_abs, arith, rules, subst}
->>>>>>> 6accf8af6de26a345bb8c60907b647d96538109a
 use mir.Syntax.{w128}
 use mir.Val.{SFits}
 use Rattle.std.specs.Int.{IsGcd}

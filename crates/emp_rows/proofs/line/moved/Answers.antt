@@ -1,12 +1,6 @@
-<<<<<<< HEAD
-use Rattle.std.proofs.Common.{◌≡◌, ◌<ℤ◌, ℤ, pos, length, ap, sym, subst}
-use Rattle.emp_algebra.specs.Vector.{cell}
-use Rattle.emp_rows.specs.Pivot.{Factors, factors}
-=======
 use Rattle.std.proofs.Common.{◌<ℤ◌, pos, length, sym, subst}
 use Rattle.emp_algebra.specs.Vector.{cell}
 use Rattle.emp_rows.specs.Pivot.{Factors}
->>>>>>> 6accf8af6de26a345bb8c60907b647d96538109a
 use Rattle.emp_rows.specs.Steps.{factors_of}
 use Rattle.emp_rows.proofs.Sound.{own_positive}
 use Rattle.emp_rows.proofs.Joins.{whole_sound}

@@ -1,8 +1,4 @@
-<<<<<<< HEAD
-use Rattle.std.proofs.Common.{ℕ, ◌≡◌, ◌<◌, ◌^◌, ℤ, pos, unsigned_abs, arith, rules, subst, subst₂, sym}
-=======
 use Rattle.std.proofs.Common.{◌≡◌, ◌<◌, ◌^◌, unsigned_abs, subst, subst₂, sym}
->>>>>>> 6accf8af6de26a345bb8c60907b647d96538109a
 use mir.Syntax.{w128}
 use mir.Val.{SFits}
 use Rattle.std.specs.Int.{IsGcd}

@@ -1,9 +1,4 @@
-<<<<<<< HEAD
-use Rattle.std.proofs.Common.{◌≡◌, ◌-◌, ◌+◌, ℕ, suc, length, arith, ap, subst, ◌∙◌, sym}
-use Rattle.emp_rows.specs.declared.walk.Step.{Step}
-=======
 use Rattle.std.proofs.Common.{◌≡◌, ◌-◌, suc, length, arith, ap, subst, ◌∙◌}
->>>>>>> 6accf8af6de26a345bb8c60907b647d96538109a
 use Rattle.emp_rows.specs.declared.walk.Step.TheVariants.{Fixed, Ended}
 use Rattle.emp_rows.specs.Walk.{IsVerdict, walk_from, walk_of}
 use Rattle.emp_rows.specs.Tableau.{StepGoes, dictionary_of}
@@ -24,11 +19,7 @@ returns-in-Ended c =
     let g : StepGoes c.loop-row.row c.loop-row.pivots c.loop-row.tableau (Ended c.in-Ended.verdict) = subst (StepGoes c.loop-row.row c.loop-row.pivots c.loop-row.tableau) c.in-Ended.is c.in_ok-made.ensures in
     record {
       decided = walk_ended c.args.base (length c.args.rows.now) c.loop-row.row c.loop-row.pivots (dictionary_of c.loop-row.tableau) (walk_of c.args.base c.args.rows.now) c.in-Ended.verdict (omega arith) c.loop-row.invariant.decides
-<<<<<<< HEAD
-      (λ left. subst (λ m. IsVerdict m (walk_from (suc left) c.loop-row.row c.loop-row.pivots (dictionary_of c.loop-row.tableau)) c.in-Ended.verdict) c.loop-row.invariant.sound.columns (g left));
-=======
           (λ left. subst (λ m. IsVerdict m (walk_from (suc left) c.loop-row.row c.loop-row.pivots (dictionary_of c.loop-row.tableau)) c.in-Ended.verdict) c.loop-row.invariant.sound.columns (g left));
->>>>>>> 6accf8af6de26a345bb8c60907b647d96538109a
     }
 
 pub loop-row-preserved : goal.loop-row-preserved

@@ -1,16 +1,7 @@
-<<<<<<< HEAD
-use Rattle.std.proofs.Common.{◌≡◌, ◌≢◌, ◌<◌, pos, length, get_or, sym, subst}
-use Rattle.std.specs.List.{All}
-use Rattle.emp_algebra.specs.Vector.{cell}
-use Rattle.emp_rows.specs.Pivot.{no_line}
-use Rattle.emp_rows.specs.Steps.{IsLine}
-use Rattle.emp_rows.proofs.Goes.{Needs, needs}
-=======
 use Rattle.std.proofs.Common.{◌≢◌, ◌<◌, pos, length, get_or, sym, subst}
 use Rattle.emp_algebra.specs.Vector.{cell}
 use Rattle.emp_rows.specs.Pivot.{no_line}
 use Rattle.emp_rows.proofs.Goes.{needs}
->>>>>>> 6accf8af6de26a345bb8c60907b647d96538109a
 use Rattle.emp_rows.proofs.walk.Tableau.pivoted.Goals as goal
 
 pub pivot-requires-clause-column : goal.pivot-requires-clause-column
