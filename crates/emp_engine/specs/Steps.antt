@@ -1,18 +1,39 @@
 -- What the steps of `run` leave.
-use Rattle.std.specs.Prelude.{◌≡◌, ℕ, ◌⊎◌, List, Option}
+use Rattle.std.specs.Prelude.{◌≡◌, ℕ, ◌+◌, ◌⊎◌, ℤ, List, length, Option}
+use Rattle.emp_num.specs.declared.frac.Frac.{Frac}
+use Rattle.emp_rows.specs.Walk.{Dictionary, solved, refuted, too_wide, walk_of, ArePoint}
 use Rattle.emp_desk.specs.Desk.{Place, loads, output, Contents, Told, KeepsFiles, Says, SaysPrefix, Rose}
 use Rattle.emp_engine.specs.declared.fault_line.Input.{Input}
 use Rattle.emp_engine.specs.declared.fault_line.Input.TheVariants.{Model, Annotation}
 use Rattle.emp_engine.specs.declared.fault_line.Fault.{Fault}
 use Rattle.emp_engine.specs.declared.fault_line.Fault.TheVariants.{NotYet, Unread, NoMemory, Wide}
 use Rattle.emp_engine.specs.declared.decide.Answer.{Answer}
-use Rattle.emp_engine.specs.Report.{not_yet_line, wide_line}
+use Rattle.emp_engine.specs.declared.outline.Outline.{Outline}
+use Rattle.emp_engine.specs.Meaning.{rows_of}
+use Rattle.emp_engine.specs.Report.{equilibrium_report, missing_report, not_yet_line, wide_line}
 use Rattle.emp_engine.specs.Run.{Decides, IsWhole, SaysDue, SaysPartOfDue, SomeLoadRose, SaysEquilibrium, ShowsNone, NothingRose}
 
 -- the answer is that of the two texts
 pub record IsAnswer (model_text info_text : List ℕ) (a : Answer) : Type 0 where
   pub status : (a.status ≡ 0) ⊎ (a.status ≡ 1)
   pub decided : Decides model_text info_text a.status a.text.items
+
+-- the status and the text that the walk over the rows of an outline gives
+pub data Settles (o : Outline) : ℕ → List ℕ → Type 0 where
+  settled_point : (n : ℕ) (d : Dictionary) (fs : List Frac) → walk_of (length o.variables) (rows_of o) ≡ solved n d → ArePoint (length o.variables) d fs → Settles o 0 (equilibrium_report (n + 1) o.variables fs)
+  settled_none : (n : ℕ) (fs : List ℤ) → walk_of (length o.variables) (rows_of o) ≡ refuted n fs → Settles o 1 (missing_report (n + 1) fs)
+
+-- the answer is that of the outline's walk
+pub record IsAnswerOf (o : Outline) (a : Answer) : Type 0 where
+  pub status : (a.status ≡ 0) ⊎ (a.status ≡ 1)
+  pub settles : Settles o a.status a.text.items
+
+-- the fault is that of the outline's walk
+abbrev pub IsWalkFault : Outline → Fault → Type 0
+IsWalkFault o (Wide pivot) = walk_of (length o.variables) (rows_of o) ≡ too_wide pivot
+IsWalkFault o NoMemory = Unit {0}
+IsWalkFault o NotYet = ⊥
+IsWalkFault o (Unread file) = ⊥
 
 -- the fault is that of the two texts; want of memory is free
 abbrev pub IsFaultOf : List ℕ → List ℕ → Fault → Type 0

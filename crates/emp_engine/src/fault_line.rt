@@ -4,6 +4,7 @@ ghost use Rattle.emp_engine.specs.FaultLine.{file_number, line_of, status_of};
 
 use arrayvec::ArrayString;
 use itoa::Buffer;
+use std::alloc::AllocError;
 
 /// What the program was to read.
 #[derive(Clone, Copy, Debug, PartialEq, Eq)]
@@ -32,6 +33,16 @@ impl Input {
             Input::Model => 1,
             Input::Annotation => 2,
         }
+    }
+}
+
+impl From<AllocError> for Fault {
+    ghost use Rattle.emp_engine.specs.declared.fault_line.Fault.TheVariants.{NoMemory as WantOfMemory};
+
+    ghost from_gives = { λ _ f. f ≡ WantOfMemory };
+
+    fn from(_error: AllocError) -> Self {
+        Fault::NoMemory
     }
 }
 

@@ -7,6 +7,7 @@ pub mod fault_line;
 pub mod lexer;
 pub mod outline;
 pub mod parser;
+pub mod reader;
 pub mod report;
 pub mod rows;
 pub mod run;

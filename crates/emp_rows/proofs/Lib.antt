@@ -9,3 +9,4 @@ pub mod Sound
 pub mod Joins
 pub mod Walks
 pub mod Goes
+pub mod WalkCount
