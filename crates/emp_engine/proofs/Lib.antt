@@ -16,3 +16,5 @@ pub mod ParsingWhole
 pub mod ParsingSound
 pub mod ParsingTested
 pub mod ParsingSays
+pub mod Reading
+pub mod Settling

@@ -1,0 +1,32 @@
+-- Texts, their tokens and their outline.
+use Rattle.std.proofs.Common.{◌≡◌, ℕ, List, Result, Ok, Err, refl, sym, subst, subst₂, ◌∙◌}
+use Rattle.std.specs.Result.{MatchResult}
+use Rattle.emp_engine.specs.declared.outline.Outline.{Outline}
+use Rattle.emp_engine.specs.declared.token.Token.{Token}
+use Rattle.emp_engine.specs.declared.fault.ReadFault.{ReadFault}
+use Rattle.emp_engine.specs.declared.fault.ReadFault.TheVariants.{OtherForm}
+use Rattle.emp_engine.specs.Form.{Wanted, AllWanted, written_model, written_info, Says, IsForm}
+use Rattle.emp_engine.specs.TokenList.{IsTokenList}
+use Rattle.emp_engine.specs.SaysOutline.{SaysOutline}
+use Rattle.emp_engine.proofs.Lexing.{spells_one}
+
+says_tokens : (w : List Wanted) (text : List ℕ) (ts : List Token) → IsTokenList text ts → AllWanted w ts → Says w text
+says_tokens w text ts h k = record { short = h.short; no_comment = h.no_comment; tokens = ts; spelled = h.spelled; are_wanted = k }
+
+tokens_wanted : (w : List Wanted) (text : List ℕ) (ts : List Token) → IsTokenList text ts → Says w text → AllWanted w ts
+tokens_wanted w text ts h s = subst (λ us. AllWanted w us) (spells_one s.tokens ts text s.spelled h.spelled) s.are_wanted
+
+pub list_of : (w : List Wanted) (text : List ℕ) → Says w text → (ts : List Token) × IsTokenList text ts
+list_of w text s = (s.tokens, record { short = s.short; no_comment = s.no_comment; spelled = s.spelled })
+
+module _ (m i : List ℕ) (ts us : List Token) (a : IsTokenList m ts) (b : IsTokenList i us) where
+  form_of : (o : Outline) → SaysOutline ts us o → IsForm m i o
+  form_of o h = record { sound = h.sound; model = says_tokens (written_model o) m ts a h.model_tokens; info = says_tokens (written_info o) i us b h.info_tokens }
+
+  outline_of : (o : Outline) → IsForm m i o → SaysOutline ts us o
+  outline_of o h = record { sound = h.sound; model_tokens = tokens_wanted (written_model o) m ts a h.model; info_tokens = tokens_wanted (written_info o) i us b h.info }
+
+  -- the outline of the tokens is that of the texts
+  pub read_gives : (vs ws : List Token) → vs ≡ ts → ws ≡ us → (r : Result Outline ReadFault) → MatchResult r (SaysOutline vs ws) (λ e. e ≡ OtherForm → (o : Outline) → SaysOutline vs ws o → ⊥) → MatchResult r (IsForm m i) (λ e. e ≡ OtherForm → (o : Outline) → IsForm m i o → ⊥)
+  read_gives vs ws p q (Ok o) h = form_of o (subst₂ (λ x y. SaysOutline x y o) p q h)
+  read_gives vs ws p q (Err e) h = λ is o f. h is o (subst₂ (λ x y. SaysOutline x y o) (sym p) (sym q) (outline_of o f))
