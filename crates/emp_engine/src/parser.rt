@@ -1,7 +1,6 @@
 //! From tokens to an outline.
-ghost use Rattle.std.specs.Prelude.{◌≡◌, ◌+◌, ◌<◌, ◌≤◌, ℕ, List, [], ◌∷◌, ◌++◌, length, drop, codes, IsTrue, ◌↔◌, MatchResult, cond, IfOk};
-ghost use Rattle.emp_engine.specs.Form.{SameName};
-ghost use Rattle.emp_engine.specs.Parsing.{Reads, Skips, Sees, multiple_then, find_then, same_name, find_name, after_called, after_sign, after_zero, name_then, separator_then, names_then, lead_then, product_then, terms_then, joint_then, sum_then, definition_then, definitions_then, head_then, all_then, solve_then, tail_then, opening_then, pairs_of, Gives, body_of, info_of, outline_of};
+ghost use Rattle.std.specs.Prelude.{◌≡◌, ◌+◌, ◌<◌, ◌≤◌, [], length, drop, MatchResult, IfOk};
+ghost use Rattle.emp_engine.specs.Parsing.{Reads, Skips, Sees, multiple_then, find_then, same_name, find_name, after_called, after_sign, after_zero, name_then, separator_then, names_then, lead_then, product_then, joint_then, sum_then, definition_then, definitions_then, head_then, all_then, solve_then, tail_then, opening_then, pairs_of, Gives, body_of, info_of, outline_of};
 ghost use Rattle.emp_engine.specs.SaysOutline.{SaysOutline};
 
 mod sound;
