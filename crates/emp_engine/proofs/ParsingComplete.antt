@@ -1,20 +1,18 @@
 -- The tokens that are written for something are read back as that thing.
-use Rattle.std.proofs.Common.{◌≡◌, ◌≢◌, ℕ, zero, suc, ◌+◌, ◌<◌, ◌≤◌, Bool, true, false, cond, Option, Some, None, List, [], ◌∷◌, ◌++◌, length, get_or, refl, ap, sym, subst, ◌∙◌, arith, append_assoc}
+use Rattle.std.proofs.Common.{◌≡◌, ◌≢◌, ℕ, ◌<◌, Bool, true, false, cond, Option, Some, None, List, [], ◌∷◌, ◌++◌, length, refl, ap, sym, subst, ◌∙◌, arith, append_assoc}
 use Rattle.std.proofs.lemmas.List.{append-nil}
-use Rattle.std.specs.Prelude.{AllPairs, codes}
+use Rattle.std.specs.Prelude.{AllPairs}
 use Rattle.std.specs.Option.{option_and_then}
 use Rattle.std.proofs.lemmas.Bool.{eq-eqb}
-use Rattle.emp_engine.specs.declared.outline.Outline.{Outline}
 use Rattle.emp_engine.specs.declared.outline.Term.{Term}
 use Rattle.emp_engine.specs.declared.outline.Product.{Product}
 use Rattle.emp_engine.specs.declared.outline.Product.TheVariants.{Constant, Plain, Multiple}
-use Rattle.emp_engine.specs.declared.outline.Pair.{Pair}
 use Rattle.emp_engine.specs.declared.token.Token.{Token}
 use Rattle.emp_engine.specs.declared.token.Token.TheVariants.{Word, Numeral, Sign as Mark}
 use Rattle.emp_engine.specs.declared.token.Sign.{Sign}
-use Rattle.emp_engine.specs.declared.token.Sign.TheVariants.{Semicolon, Comma, Slash, Dots, Plus, Minus, Times, NoRelation}
-use Rattle.emp_engine.specs.Form.{Wanted, spelled, called, number, symbol, IsWanted, AllWanted, written_more_names, written_names, name_at, written_product, sign_between, written_more_terms, written_lead, written_sum, written_definitions, lower, SameName}
-use Rattle.emp_engine.specs.Parsing.{same_name, find_name, after_called, after_sign, after_zero, name_then, separator_then, names_then, lead_then, multiple_then, product_then, joint_then, terms_then, signed, sum_then, definition_then, definitions_then, sign_number}
+use Rattle.emp_engine.specs.declared.token.Sign.TheVariants.{Semicolon, Comma, Dots, Plus, Minus, Times, NoRelation}
+use Rattle.emp_engine.specs.Form.{Wanted, spelled, called, number, symbol, AllWanted, written_names, name_at, written_product, sign_between, written_more_terms, written_lead, written_sum, written_definitions, lower}
+use Rattle.emp_engine.specs.Parsing.{after_called, after_sign, after_zero, name_then, separator_then, names_then, lead_then, multiple_then, product_then, joint_then, terms_then, sum_then, definition_then, definitions_then, sign_number}
 use Rattle.emp_engine.proofs.ParsingNames.{same_to, find_name-is}
 use Rattle.emp_engine.proofs.ParsingSteps.{names_then-more, names_then-last, terms_then-more, terms_then-last}
 

@@ -1,17 +1,15 @@
 -- A sound outline that was read is what the tokens of the two texts say.
-use Rattle.std.proofs.Common.{◌≡◌, ◌≢◌, ℕ, ◌+◌, ◌<◌, ◌≤◌, Bool, true, false, cond, Option, Some, None, List, [], ◌∷◌, ◌++◌, length, refl, ap, sym, subst, ◌∙◌, arith, append_assoc}
+use Rattle.std.proofs.Common.{◌≡◌, ℕ, ◌<◌, Bool, true, false, cond, Option, Some, None, List, [], ◌∷◌, ◌++◌, length, ap, sym, subst, ◌∙◌, arith, append_assoc}
 use Rattle.std.specs.Prelude.{All, codes}
-use Rattle.std.specs.Option.{option_and_then}
-use Rattle.std.proofs.lemmas.Option.{option_and_then_some, cond_some, some_pair_parts}
+use Rattle.std.proofs.lemmas.Option.{option_and_then_some, some_pair_parts}
 use Rattle.emp_engine.specs.declared.outline.Outline.{Outline}
 use Rattle.emp_engine.specs.declared.outline.Term.{Term}
 use Rattle.emp_engine.specs.declared.outline.Pair.{Pair}
 use Rattle.emp_engine.specs.declared.token.Token.{Token}
-use Rattle.emp_engine.specs.declared.token.Sign.{Sign}
-use Rattle.emp_engine.specs.declared.token.Sign.TheVariants.{Semicolon, Comma, Slash, Dots}
-use Rattle.emp_engine.specs.Form.{Wanted, spelled, called, number, symbol, AllWanted, written_names, written_definitions, written_pairs, written_model, written_info, IsSound}
+use Rattle.emp_engine.specs.declared.token.Sign.TheVariants.{Semicolon, Slash}
+use Rattle.emp_engine.specs.Form.{Wanted, spelled, called, symbol, AllWanted, written_names, written_definitions, written_pairs, IsSound}
 use Rattle.emp_engine.specs.SaysOutline.{SaysOutline}
-use Rattle.emp_engine.specs.Parsing.{after_called, after_sign, name_then, names_then, definitions_then, pairs_of, head_then, all_then, solve_then, tail_then, opening_then, if_over, are_few, body_of, info_of, outline_from, rest_of, outline_of}
+use Rattle.emp_engine.specs.Parsing.{after_called, after_sign, name_then, names_then, definitions_then, head_then, all_then, solve_then, tail_then, opening_then, if_over, are_few, body_of, info_of, outline_from, rest_of, outline_of}
 use Rattle.emp_engine.specs.Soundness.{is_sound_outline}
 use Rattle.emp_engine.proofs.ParsingNames.{true_or_false}
 use Rattle.emp_engine.proofs.ParsingComplete.{AllSums}

@@ -1,7 +1,6 @@
 -- What is read back from tokens is what they are written for.
-use Rattle.std.proofs.Common.{◌≡◌, ◌≢◌, ℕ, zero, suc, ◌+◌, ◌<◌, ◌≤◌, Bool, true, false, cond, Option, Some, None, List, [], ◌∷◌, ◌++◌, length, get_or, refl, ap, sym, subst, ◌∙◌, arith, append_assoc}
-use Rattle.std.specs.Prelude.{All, AllPairs, codes}
-use Rattle.std.specs.Option.{option_and_then}
+use Rattle.std.proofs.Common.{◌≡◌, ℕ, ◌<◌, Bool, true, false, Some, List, [], ◌∷◌, ◌++◌, length, refl, ap, sym, subst, ◌∙◌, arith, append_assoc}
+use Rattle.std.specs.Prelude.{All}
 use Rattle.std.proofs.lemmas.Option.{option_and_then_some, cond_some, some_pair_parts}
 use borrow.Author.Tests.{eqb-true}
 use Rattle.std.proofs.lemmas.List.{append-nil}
@@ -15,7 +14,7 @@ use Rattle.emp_engine.specs.declared.token.Token.{Token}
 use Rattle.emp_engine.specs.declared.token.Token.TheVariants.{Word, Numeral, Sign as Mark}
 use Rattle.emp_engine.specs.declared.token.Sign.{Sign}
 use Rattle.emp_engine.specs.declared.token.Sign.TheVariants.{Semicolon, Comma, Slash, Dots, Plus, Minus, Times, NoRelation}
-use Rattle.emp_engine.specs.Form.{Wanted, spelled, called, number, symbol, AllWanted, written_names, name_at, written_product, sign_between, written_more_terms, written_lead, written_sum, written_definitions, written_pairs}
+use Rattle.emp_engine.specs.Form.{Wanted, spelled, called, number, symbol, AllWanted, written_names, written_product, sign_between, written_more_terms, written_lead, written_sum, written_definitions, written_pairs}
 use Rattle.emp_engine.specs.Parsing.{same_name, find_name, after_called, after_sign, after_zero, name_then, names_then, lead_then, terms_then, signed, sum_then, definition_then, definitions_then, sign_number, pairs_of}
 use Rattle.emp_engine.proofs.ParsingNames.{same_from, find_name-found}
 use Rattle.emp_engine.proofs.ParsingSteps.{paired}

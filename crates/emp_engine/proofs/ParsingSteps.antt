@@ -1,15 +1,13 @@
 -- What each small reader of src/parser.rt sees at a place.
-use Rattle.std.proofs.Common.{◌≡◌, ℕ, ◌+◌, ◌<◌, ◌≤◌, Bool, true, false, cond, Option, Some, None, List, [], ◌∷◌, ◌++◌, length, drop, get_or, refl, ap, sym, ◌∙◌, arith, subst, length-drop}
+use Rattle.std.proofs.Common.{◌≡◌, ℕ, ◌+◌, ◌<◌, ◌≤◌, Bool, true, false, cond, Option, Some, None, List, [], ◌∷◌, ◌++◌, length, drop, get_or, refl, ap, sym, ◌∙◌, arith, length-drop}
 use Rattle.std.proofs.lemmas.List.{drop_more, drop_all}
 use Rattle.emp_engine.specs.declared.token.Token.{Token}
 use Rattle.emp_engine.specs.declared.token.Token.TheVariants.{Word, Numeral, Sign as Mark}
-use Rattle.emp_engine.specs.declared.token.Sign.{Sign}
-use Rattle.emp_engine.specs.declared.token.Sign.TheVariants.{Semicolon, Comma, Slash, Dots, Plus, Minus, Times, NoRelation}
-use Rattle.emp_engine.specs.Parsing.{same_name, find_name, after_called, after_sign, after_zero, name_then, separator_then, names_then, sign_number, terms_then, product_then, joint_then, signed, definition_then, definitions_then, find_then, pairs_of, multiple_then}
+use Rattle.emp_engine.specs.declared.token.Sign.TheVariants.{Semicolon, Comma, Plus, Minus, Times, NoRelation}
+use Rattle.emp_engine.specs.Parsing.{same_name, find_name, name_then, separator_then, names_then, terms_then, product_then, joint_then, signed, definition_then, definitions_then, find_then, pairs_of}
 use Rattle.std.specs.Option.{option_and_then}
 use Rattle.emp_engine.specs.declared.outline.Term.{Term}
 use Rattle.emp_engine.specs.declared.outline.Product.{Product}
-use Rattle.emp_engine.specs.declared.outline.Product.TheVariants.{Constant, Plain, Multiple}
 use Rattle.emp_engine.specs.declared.outline.Pair.{Pair}
 
 -- one place on in a list

@@ -1,5 +1,5 @@
 -- The tokens that are written for a sound outline are read back as that outline.
-use Rattle.std.proofs.Common.{◌≡◌, ◌≢◌, ℕ, zero, suc, ◌+◌, ◌<◌, ◌≤◌, Bool, true, false, cond, Option, Some, None, List, [], ◌∷◌, ◌++◌, length, get_or, refl, ap, sym, subst, ◌∙◌, arith, append_assoc, length-append}
+use Rattle.std.proofs.Common.{◌≡◌, ◌≢◌, ℕ, ◌+◌, ◌<◌, ◌≤◌, true, cond, Option, Some, None, List, [], ◌∷◌, ◌++◌, length, get_or, refl, ap, sym, subst, ◌∙◌, arith, append_assoc, length-append}
 use Rattle.std.specs.Prelude.{All, AllPairs, codes, nat_le, ◌&&◌}
 use Rattle.std.specs.Option.{option_and_then}
 use Rattle.std.proofs.lemmas.List.{append-nil, get_or-append-add}
@@ -13,13 +13,12 @@ use Rattle.emp_engine.specs.declared.outline.Product.TheVariants.{Constant, Plai
 use Rattle.emp_engine.specs.declared.outline.Pair.{Pair}
 use Rattle.emp_engine.specs.declared.token.Token.{Token}
 use Rattle.emp_engine.specs.declared.token.Token.TheVariants.{Word, Numeral, Sign as Mark}
-use Rattle.emp_engine.specs.declared.token.Sign.{Sign}
-use Rattle.emp_engine.specs.declared.token.Sign.TheVariants.{Semicolon, Comma, Slash, Dots, Plus, Minus, Times, NoRelation}
-use Rattle.emp_engine.specs.Form.{Wanted, spelled, called, number, symbol, IsWanted, AllWanted, written_names, name_at, written_definitions, written_model, written_info, written_pairs, lower, SameName, names_of, IsSound, IsSum, ArePairs, sum_variables, product_variables}
-use Rattle.emp_engine.specs.Parsing.{same_name, find_name, after_called, after_sign, name_then, names_then, definitions_then, find_then, pairs_of, head_then, all_then, solve_then, tail_then, opening_then, if_over, are_few, body_of, info_of, outline_from, rest_of, outline_of}
+use Rattle.emp_engine.specs.declared.token.Sign.TheVariants.{Semicolon, Slash}
+use Rattle.emp_engine.specs.Form.{Wanted, spelled, called, symbol, AllWanted, written_names, name_at, written_definitions, written_pairs, lower, IsSum, sum_variables, product_variables}
+use Rattle.emp_engine.specs.Parsing.{after_called, find_then, pairs_of, head_then, all_then, solve_then, tail_then, opening_then, if_over, are_few, body_of, info_of, outline_from, rest_of, outline_of}
 use Rattle.emp_engine.specs.SaysOutline.{SaysOutline}
-use Rattle.emp_engine.proofs.ParsingNames.{same_to, find_name-is}
-use Rattle.emp_engine.proofs.ParsingSteps.{pairs_of-more, paired}
+use Rattle.emp_engine.proofs.ParsingNames.{find_name-is}
+use Rattle.emp_engine.proofs.ParsingSteps.{pairs_of-more}
 use Rattle.emp_engine.proofs.ParsingComplete.{Past, Got, past_called, past_sign, got_name, got_names, got_definitions, IsDeclared, AllDeclared, AllSums}
 
 -- ---- pairs

@@ -1,7 +1,6 @@
 //! From tokens to an outline.
-ghost use Rattle.std.specs.Prelude.{◌≡◌, ◌+◌, ◌<◌, ◌≤◌, ℕ, List, [], ◌∷◌, ◌++◌, length, drop, codes, IsTrue, ◌↔◌, MatchResult, cond, IfOk};
-ghost use Rattle.emp_engine.specs.Form.{SameName};
-ghost use Rattle.emp_engine.specs.Parsing.{Reads, Skips, Sees, multiple_then, find_then, same_name, find_name, after_called, after_sign, after_zero, name_then, separator_then, names_then, lead_then, product_then, terms_then, joint_then, sum_then, definition_then, definitions_then, head_then, all_then, solve_then, tail_then, opening_then, pairs_of, Gives, body_of, info_of, outline_of};
+ghost use Rattle.std.specs.Prelude.{◌≡◌, ◌+◌, ◌<◌, ◌≤◌, [], length, drop, MatchResult, IfOk};
+ghost use Rattle.emp_engine.specs.Parsing.{Reads, Skips, Sees, multiple_then, find_then, same_name, find_name, after_called, after_sign, after_zero, name_then, separator_then, names_then, lead_then, product_then, joint_then, sum_then, definition_then, definitions_then, head_then, all_then, solve_then, tail_then, opening_then, pairs_of, Gives, body_of, info_of, outline_of};
 ghost use Rattle.emp_engine.specs.SaysOutline.{SaysOutline};
 
 mod sound;
@@ -449,63 +448,38 @@ mod tests {
         outline(alloc, &model, &info)
     }
 
+    /// Whether a term is negative, its numeral, and its variable.
+    fn shape(term: Term) -> (bool, u64, Option<u32>) {
+        match term.product {
+            Product::Constant(numeral) => (term.negative, numeral, None),
+            Product::Plain(variable) => (term.negative, 1, Some(variable)),
+            Product::Multiple(numeral, variable) => (term.negative, numeral, Some(variable)),
+        }
+    }
+
     #[test]
     fn reads_a_system(rt: HostRuntime) {
         let outline = said(rt.alloc(), MODEL, INFO).expect(&rt, "the form");
         assert!(rt; outline.model.is(b"m"));
-        assert_eq!(rt; outline.variables.len(), 2);
         let [first, second] = outline.sums.as_slice() else {
             panic!(rt; "two sums");
         };
-        assert!(rt;
-            matches!(
-                first.as_slice(),
-                [
-                    Term {
-                        negative: false,
-                        product: Product::Multiple(2, 0)
-                    },
-                    Term {
-                        negative: false,
-                        product: Product::Plain(1)
-                    },
-                    Term {
-                        negative: true,
-                        product: Product::Constant(5)
-                    },
-                ]
-            )
-        );
-        assert!(rt;
-            matches!(
-                second.as_slice(),
-                [
-                    Term {
-                        negative: true,
-                        product: Product::Plain(0)
-                    },
-                    Term {
-                        negative: true,
-                        product: Product::Multiple(3, 1)
-                    },
-                ]
-            )
-        );
-        assert!(rt;
-            matches!(
-                outline.pairs.as_slice(),
-                [
-                    Pair {
-                        equation: 0,
-                        variable: 0
-                    },
-                    Pair {
-                        equation: 1,
-                        variable: 1
-                    }
-                ]
-            )
-        );
+        let [a, b, c] = first.as_slice() else {
+            panic!(rt; "three terms");
+        };
+        assert_eq!(rt; shape(*a), (false, 2, Some(0)));
+        assert_eq!(rt; shape(*b), (false, 1, Some(1)));
+        assert_eq!(rt; shape(*c), (true, 5, None));
+        let [a, b] = second.as_slice() else {
+            panic!(rt; "two terms");
+        };
+        assert_eq!(rt; shape(*a), (true, 1, Some(0)));
+        assert_eq!(rt; shape(*b), (true, 3, Some(1)));
+        let [p, q] = outline.pairs.as_slice() else {
+            panic!(rt; "two pairs");
+        };
+        assert_eq!(rt; (p.equation, p.variable), (0, 0));
+        assert_eq!(rt; (q.equation, q.variable), (1, 1));
     }
 
     /// A model of one equation with the sum.

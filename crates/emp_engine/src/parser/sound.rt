@@ -1,9 +1,9 @@
 //! Tests of what an outline says.
-ghost use Rattle.std.specs.Prelude.{◌≡◌, ◌+◌, ◌<◌, ◌≤◌, ℕ, List, [], ◌∷◌, ◌++◌, length, drop, codes, slice_index_or};
+ghost use Rattle.std.specs.Prelude.{◌≡◌, ◌+◌, ◌<◌, ◌≤◌, [], length, drop, slice_index_or};
 ghost use Rattle.std.specs.List.{list_any};
 ghost use Rattle.emp_engine.specs.Form.{names_of};
 ghost use Rattle.emp_engine.specs.Parsing.{same_name};
-ghost use Rattle.emp_engine.specs.Soundness.{is_fresh, are_apart, all_fit, name_fits, names_fit, product_clash, term_clash, product_fits, term_fits, sum_fits, pair_clash, pair_fits, pairs_fit, counts_fit, is_sound_outline};
+ghost use Rattle.emp_engine.specs.Soundness.{is_fresh, are_apart, all_fit, name_fits, names_fit, product_clash, term_clash, product_fits, term_fits, sum_fits, pair_clash, pairs_fit, counts_fit, is_sound_outline};
 
 use super::is_same_name;
 use crate::outline::{Outline, Pair, Product, Term};

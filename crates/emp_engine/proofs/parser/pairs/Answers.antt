@@ -1,4 +1,4 @@
-use Rattle.std.proofs.Common.{◌≡◌, Some, None, [], drop, ap, sym, ◌∙◌, rules}
+use Rattle.std.proofs.Common.{◌≡◌, None, [], drop, sym, ◌∙◌, rules}
 use Rattle.emp_engine.specs.Parsing.{pairs_of}
 use Rattle.emp_engine.proofs.ParsingSteps.{pairs_of-no_equation}
 use Rattle.emp_engine.proofs.parser.pairs.Goals as goal

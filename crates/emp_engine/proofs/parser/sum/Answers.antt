@@ -1,5 +1,5 @@
-use Rattle.std.proofs.Common.{◌≡◌, Some, None, [], drop, ap, sym, ◌∙◌}
-use Rattle.emp_engine.specs.Parsing.{terms_then, sum_then, joint_then}
+use Rattle.std.proofs.Common.{◌≡◌, Some, None, drop, ap, sym, ◌∙◌}
+use Rattle.emp_engine.specs.Parsing.{terms_then, joint_then}
 use Rattle.emp_engine.proofs.ParsingSteps.{terms_then-more, terms_then-last}
 use Rattle.emp_engine.proofs.parser.sum.Goals as goal
 

@@ -1,4 +1,4 @@
-use Rattle.std.proofs.Common.{◌≡◌, ◌-◌, [], length, drop}
+use Rattle.std.proofs.Common.{◌≡◌, ◌-◌, length, drop}
 use Rattle.emp_engine.specs.Parsing.{terms_then, sum_then}
 use Rattle.emp_engine.proofs.parser.sum.Given as goal
 
