@@ -1,0 +1,34 @@
+//! What the definitions say of small models.
+//!
+//! No function here runs. Each states that the right point meets a definition and that a wrong one does not.
+ghost use Rattle.emp_ast.specs.Examples.{ExamplesOfValues, ExamplesOfDefinitions, ExamplesOfRivals, ExamplesOfInequalities, ExamplesOfAgents, ExamplesOfMultipliers};
+
+/// The values of expressions, equations and bounds at points.
+pub fn examples_of_values()
+    ensures { ExamplesOfValues }
+{}
+
+/// Which equation defines an objective, and which are constraints.
+pub fn examples_of_definitions()
+    ensures { ExamplesOfDefinitions }
+{}
+
+/// The rivals of an agent.
+pub fn examples_of_rivals()
+    ensures { ExamplesOfRivals }
+{}
+
+/// Variational inequalities with and without a bound.
+pub fn examples_of_inequalities()
+    ensures { ExamplesOfInequalities }
+{}
+
+/// Agents that minimise and that maximise.
+pub fn examples_of_agents()
+    ensures { ExamplesOfAgents }
+{}
+
+/// Multipliers, and dual variables that hold them.
+pub fn examples_of_multipliers()
+    ensures { ExamplesOfMultipliers }
+{}
