@@ -16,7 +16,7 @@ use Rattle.emp_ast.specs.Examples.{ExamplesOfAgents, ExamplesOfMultipliers, equ,
 use Rattle.emp_ast.proofs.ExampleLaws.{each_of_one, each_of_two, each_of_three, below_two, below_three, held_free}
 
 -- ---- an order by an equation, a multiple and a number at least 0
-le_by : {l r a b : ℤ} (k s d : ℤ) → pos 0 <ℤ d → a ≡ b → r *ℤ d ≡ a +ℤ k → b +ℤ k ≡ l *ℤ d +ℤ s → pos 0 ≤ℤ s → l ≤ℤ r
+pub le_by : {l r a b : ℤ} (k s d : ℤ) → pos 0 <ℤ d → a ≡ b → r *ℤ d ≡ a +ℤ k → b +ℤ k ≡ l *ℤ d +ℤ s → pos 0 ≤ℤ s → l ≤ℤ r
 le_by {l} {r} {a} {b} k s d up same right left above = le_cancel_right l r d (omega (arith, linear)) up
 
 -- ---- agents

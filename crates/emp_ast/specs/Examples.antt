@@ -219,3 +219,29 @@ pub record ExamplesOfMultipliers : Type 0 where
   pub priced_two : IsEquilibrium priced priced_by (whole_point (pos 1 ∷ pos 1 ∷ pos 2 ∷ []))
   pub priced_wrong_sign : IsEquilibrium priced priced_by (whole_point (pos 1 ∷ pos 1 ∷ negsuc 1 ∷ [])) → ⊥
   pub priced_not_least : IsEquilibrium priced priced_by (whole_point (pos 1 ∷ pos 1 ∷ pos 1 ∷ [])) → ⊥
+
+-- ---- one equation listed by two blocks: `vi f x k` and `vi g y k` with f.. x =n= 0, g.. 2*y =n= 0 and k.. x + y =g= 3
+abbrev pub shared_sum : Equation
+shared_sum = equation (Var (var 0) ∷ Var (var 1) ∷ Add 0 1 ∷ []) AtLeast (Number (whole 3) ∷ [])
+
+abbrev pub sharing : Model
+sharing = model free_pair (equation (Var (var 0) ∷ []) Nothing (Number (whole 0) ∷ []) ∷ equation (Number (whole 2) ∷ Var (var 1) ∷ Mul 0 1 ∷ []) Nothing (Number (whole 0) ∷ []) ∷ shared_sum ∷ [])
+
+abbrev pub first_block : Block
+first_block = Vi [] ((equ 0, var 0) ∷ []) (equ 2 ∷ [])
+
+abbrev pub second_block : Block
+second_block = Vi [] ((equ 1, var 1) ∷ []) (equ 2 ∷ [])
+
+-- annotated with these equations under `visol`
+abbrev pub sharing_by : List EquId → Annot
+sharing_by visols = annot (first_block ∷ second_block ∷ []) [] visols
+
+pub record ExamplesOfSharing : Type 0 where
+  -- without `visol` the blocks may have different multipliers
+  pub apart : IsEquilibrium sharing (sharing_by []) (whole_point (pos 1 ∷ pos 2 ∷ []))
+  pub first_has_one : AreMultipliers sharing (sharing_by []) 0 first_block (whole_point (pos 1 ∷ pos 2 ∷ [])) (all_are (pos 1))
+  pub second_has_four : AreMultipliers sharing (sharing_by []) 1 second_block (whole_point (pos 1 ∷ pos 2 ∷ [])) (all_are (pos 4))
+  -- with it they have one
+  pub no_common_one : IsEquilibrium sharing (sharing_by (equ 2 ∷ [])) (whole_point (pos 1 ∷ pos 2 ∷ [])) → ⊥
+  pub common_two : IsEquilibrium sharing (sharing_by (equ 2 ∷ [])) (whole_point (pos 2 ∷ pos 1 ∷ []))

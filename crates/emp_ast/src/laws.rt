@@ -1,7 +1,7 @@
 //! What the definitions say of small models.
 //!
 //! No function here runs. Each states that the right point meets a definition and that a wrong one does not.
-ghost use Rattle.emp_ast.specs.Examples.{ExamplesOfValues, ExamplesOfDefinitions, ExamplesOfRivals, ExamplesOfInequalities, ExamplesOfAgents, ExamplesOfMultipliers};
+ghost use Rattle.emp_ast.specs.Examples.{ExamplesOfValues, ExamplesOfDefinitions, ExamplesOfRivals, ExamplesOfInequalities, ExamplesOfAgents, ExamplesOfMultipliers, ExamplesOfSharing};
 
 /// The values of expressions, equations and bounds at points.
 pub fn examples_of_values()
@@ -31,4 +31,9 @@ pub fn examples_of_agents()
 /// Multipliers, and dual variables that hold them.
 pub fn examples_of_multipliers()
     ensures { ExamplesOfMultipliers }
+{}
+
+/// An equation that two blocks list, with one multiplier for both and without.
+pub fn examples_of_sharing()
+    ensures { ExamplesOfSharing }
 {}
