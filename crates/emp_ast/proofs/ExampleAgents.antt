@@ -57,7 +57,7 @@ examples_of_agents = record {
 
 -- ---- multipliers
 -- c - 2*(x - 1) is at least 1 where c = x*x
-least_two : (c x d : ℤ) → pos 0 <ℤ d → c *ℤ (d *ℤ d) ≡ x *ℤ x *ℤ d → (pos 1 *ℤ (d *ℤ (pos 1 *ℤ (d *ℤ pos 1) *ℤ pos 1))) ≤ℤ ((c *ℤ (pos 1 *ℤ (d *ℤ pos 1) *ℤ pos 1) +ℤ neg_ℤ (pos 2 *ℤ (x *ℤ pos 1 +ℤ negsuc 0 *ℤ d) *ℤ pos 1 +ℤ pos 0 *ℤ (pos 1 *ℤ (d *ℤ pos 1))) *ℤ d) *ℤ pos 1)
+pub least_two : (c x d : ℤ) → pos 0 <ℤ d → c *ℤ (d *ℤ d) ≡ x *ℤ x *ℤ d → (pos 1 *ℤ (d *ℤ (pos 1 *ℤ (d *ℤ pos 1) *ℤ pos 1))) ≤ℤ ((c *ℤ (pos 1 *ℤ (d *ℤ pos 1) *ℤ pos 1) +ℤ neg_ℤ (pos 2 *ℤ (x *ℤ pos 1 +ℤ negsuc 0 *ℤ d) *ℤ pos 1 +ℤ pos 0 *ℤ (pos 1 *ℤ (d *ℤ pos 1))) *ℤ d) *ℤ pos 1)
 least_two c x d up h =
     le_by (neg_ℤ (pos 2 *ℤ (x -ℤ d)) *ℤ (d *ℤ d)) (d *ℤ ((x -ℤ d) *ℤ (x -ℤ d))) d up h
     (by_ring (c ∷ x ∷ d ∷ [])

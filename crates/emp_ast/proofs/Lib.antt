@@ -1,3 +1,4 @@
 pub mod ExampleLaws
 pub mod ExampleAgents
 pub mod ExampleSharing
+pub mod ExampleSigns

@@ -245,3 +245,57 @@ pub record ExamplesOfSharing : Type 0 where
   -- with it they have one
   pub no_common_one : IsEquilibrium sharing (sharing_by (equ 2 ∷ [])) (whole_point (pos 1 ∷ pos 2 ∷ [])) → ⊥
   pub common_two : IsEquilibrium sharing (sharing_by (equ 2 ∷ [])) (whole_point (pos 2 ∷ pos 1 ∷ []))
+
+-- ---- signs: `max c x d k` with d.. c + x*x =e= 0 and k.. x =g= 1, and `min c x d k` with d.. c =e= x*x - 2*x and k.. x =l= 0
+abbrev pub cap_equation : Equation
+cap_equation = equation (Var (var 0) ∷ Var (var 1) ∷ Var (var 1) ∷ Mul 1 2 ∷ Add 0 3 ∷ []) Equal (Number (whole 0) ∷ [])
+
+abbrev pub capped : Model
+capped = model free_pair (cap_equation ∷ x_from_one ∷ [])
+
+abbrev pub capper : Block
+capper = Agent Max (var 0) (var 1 ∷ []) (equ 0 ∷ equ 1 ∷ [])
+
+abbrev pub capped_by : Annot
+capped_by = annot (capper ∷ []) [] []
+
+abbrev pub x_to_zero : Equation
+x_to_zero = equation (Var (var 1) ∷ []) AtMost (Number (whole 0) ∷ [])
+
+abbrev pub stopped : Model
+stopped = model free_pair (bowl_equation ∷ x_to_zero ∷ [])
+
+pub record ExamplesOfSigns : Type 0 where
+  pub greatest_two : AreMultipliers capped capped_by 0 capper (whole_point (negsuc 0 ∷ pos 1 ∷ [])) (all_are (pos 2))
+  pub greatest_wrong_sign : AreMultipliers capped capped_by 0 capper (whole_point (negsuc 0 ∷ pos 1 ∷ [])) (all_are (negsuc 1)) → ⊥
+  pub at_most_below_zero : AreMultipliers stopped held_by 0 holder (whole_point (pos 0 ∷ pos 0 ∷ [])) (all_are (negsuc 1))
+  pub at_most_wrong_sign : AreMultipliers stopped held_by 0 holder (whole_point (pos 0 ∷ pos 0 ∷ [])) (all_are (pos 2)) → ⊥
+
+-- ---- two agents under one sum: the variables are a, b, x, y and u, and the annotation is
+-- `equilibrium min a x da s min b y db s visol s dualvar u s`
+-- v.. with the objective w: w =e= sqr(v - 2)
+abbrev pub shifted_square : ℕ → ℕ → Equation
+shifted_square w v = equation (Var (var w) ∷ []) Equal (Var (var v) ∷ Number (whole 2) ∷ Sub 0 1 ∷ Power 2 2 ∷ [])
+
+-- s.. x + y =l= 2
+abbrev pub sum_to_two : Equation
+sum_to_two = equation (Var (var 2) ∷ Var (var 3) ∷ Add 0 1 ∷ []) AtMost (Number (whole 2) ∷ [])
+
+abbrev pub rationed : Model
+rationed = model (no_variable ∷ no_variable ∷ no_variable ∷ no_variable ∷ no_variable ∷ []) (shifted_square 0 2 ∷ shifted_square 1 3 ∷ sum_to_two ∷ [])
+
+abbrev pub agent_a : Block
+agent_a = Agent Min (var 0) (var 2 ∷ []) (equ 0 ∷ equ 2 ∷ [])
+
+abbrev pub agent_b : Block
+agent_b = Agent Min (var 1) (var 3 ∷ []) (equ 1 ∷ equ 2 ∷ [])
+
+abbrev pub rationed_by : Annot
+rationed_by = annot (agent_a ∷ agent_b ∷ []) ((var 4, equ 2) ∷ []) (equ 2 ∷ [])
+
+pub record ExamplesOfRations : Type 0 where
+  -- a = 1, b = 1, x = 1, y = 1, u = -2
+  pub even : IsEquilibrium rationed rationed_by (whole_point (pos 1 ∷ pos 1 ∷ pos 1 ∷ pos 1 ∷ negsuc 1 ∷ []))
+  pub wrong_sign : IsEquilibrium rationed rationed_by (whole_point (pos 1 ∷ pos 1 ∷ pos 1 ∷ pos 1 ∷ pos 2 ∷ [])) → ⊥
+  -- x = 0 and y = 1 leave the sum slack, and a = 4 can be less
+  pub slack : IsEquilibrium rationed rationed_by (whole_point (pos 4 ∷ pos 1 ∷ pos 0 ∷ pos 1 ∷ pos 0 ∷ [])) → ⊥

@@ -1,7 +1,7 @@
 //! What the definitions say of small models.
 //!
 //! No function here runs. Each states that the right point meets a definition and that a wrong one does not.
-ghost use Rattle.emp_ast.specs.Examples.{ExamplesOfValues, ExamplesOfDefinitions, ExamplesOfRivals, ExamplesOfInequalities, ExamplesOfAgents, ExamplesOfMultipliers, ExamplesOfSharing};
+ghost use Rattle.emp_ast.specs.Examples.{ExamplesOfValues, ExamplesOfDefinitions, ExamplesOfRivals, ExamplesOfInequalities, ExamplesOfAgents, ExamplesOfMultipliers, ExamplesOfSharing, ExamplesOfSigns, ExamplesOfRations};
 
 /// The values of expressions, equations and bounds at points.
 pub fn examples_of_values()
@@ -36,4 +36,14 @@ pub fn examples_of_multipliers()
 /// An equation that two blocks list, with one multiplier for both and without.
 pub fn examples_of_sharing()
     ensures { ExamplesOfSharing }
+{}
+
+/// The signs of multipliers under `max` and of `=L=`.
+pub fn examples_of_signs()
+    ensures { ExamplesOfSigns }
+{}
+
+/// Two agents under one sum, which has one multiplier and a dual variable.
+pub fn examples_of_rations()
+    ensures { ExamplesOfRations }
 {}
