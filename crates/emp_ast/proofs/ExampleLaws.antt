@@ -1,5 +1,5 @@
 -- What the definitions say of small models: values, definitions, rivals, variational inequalities.
-use Rattle.std.proofs.Common.{◌≡◌, ℕ, zero, suc, ◌<◌, ℤ, pos, negsuc, ◌+ℤ◌, ◌-ℤ◌, ◌*ℤ◌, ◌≤ℤ◌, true, false, [], ◌∷◌, Some, arith, refl, subst}
+use Rattle.std.proofs.Common.{◌≡◌, ℕ, zero, suc, ◌<◌, ℤ, pos, negsuc, ◌+ℤ◌, ◌-ℤ◌, ◌*ℤ◌, ◌≤ℤ◌, true, false, [], ◌∷◌, Some, arith, refl, subst, sym, ap, ◌∙◌}
 use Rattle.std.specs.List.{slice_get}
 use Rattle.std.proofs.lemmas.Int.{ints}
 use Rattle.emp_algebra.proofs.Laws.{mul_nonneg}
@@ -11,8 +11,8 @@ use Rattle.emp_num.specs.Point.{Point, coordinate}
 use Rattle.emp_ast.specs.declared.model.Variable.{Variable}
 use Rattle.emp_ast.specs.Meets.{MeetsEquation, MeetsBounds}
 use Rattle.emp_ast.specs.Blocks.{no_variable, owns, is_constraint, defines_objective}
-use Rattle.emp_ast.specs.Solved.{Fits, IsFree, IsRival, IsSolved, AreMultipliers, is_priced, IsEquilibrium}
-use Rattle.emp_ast.specs.Examples.{ExamplesOfValues, ExamplesOfDefinitions, ExamplesOfRivals, ExamplesOfInequalities, whole_point, c_is_square, x_from_one, held, holder, held_by, sloped, slope, sloped_by, from_three}
+use Rattle.emp_ast.specs.Solved.{IsGivenValue, Fits, IsFree, IsRival, IsSolved, AreMultipliers, is_priced, IsEquilibrium}
+use Rattle.emp_ast.specs.Examples.{ExamplesOfValues, ExamplesOfDefinitions, ExamplesOfGivenValues, ExamplesOfRivals, ExamplesOfInequalities, whole_point, c_is_square, x_from_one, held, holder, held_by, sloped, slope, sloped_by, from_three}
 
 -- ---- each entry of a short list
 pub each_of_one : {A : Type 0} (P : ℕ → A → Type 0) (a : A) → P 0 a → (k : ℕ) (x : A) → slice_get (a ∷ []) k ≡ Some x → P k x
@@ -65,6 +65,19 @@ examples_of_definitions = record {
   function_is_none = refl;
   beside_a_pair_is_one = refl;
   not_listed = refl;
+}
+
+-- ---- given values
+nine_holds : (c x d : ℤ) → c *ℤ pos 1 ≡ pos 9 *ℤ d → x *ℤ pos 1 ≡ pos 3 *ℤ d → c *ℤ (d *ℤ d) ≡ x *ℤ x *ℤ d
+nine_holds c x d h k =
+    let c_is : c ≡ pos 9 *ℤ d = omega (arith, ints) in
+    let x_is : x ≡ pos 3 *ℤ d = omega (arith, ints) in
+    ap (λ z. z *ℤ (d *ℤ d)) c_is ∙ (by_ring (d ∷ []) (lit (pos 9) ⊗ var 0 ⊗ (var 0 ⊗ var 0)) (lit (pos 3) ⊗ var 0 ⊗ (lit (pos 3) ⊗ var 0) ⊗ var 0) refl ∙ ap (λ z. z *ℤ z *ℤ d) (sym x_is))
+
+pub examples_of_given_values : ExamplesOfGivenValues
+examples_of_given_values = record {
+  nine = record { positive = omega (arith, ints); holds = λ q c others. nine_holds (cell q.nums 0) (cell q.nums 1) q.den c (others 1 (λ e. omega arith)) };
+  not_its_own = λ h. let l = h.holds (whole_point (pos 7 ∷ pos 3 ∷ [])) refl (λ v n. refl) in omega (arith, ints);
 }
 
 -- ---- rivals

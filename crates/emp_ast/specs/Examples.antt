@@ -22,7 +22,7 @@ use Rattle.emp_ast.specs.declared.annot.Annot.{Annot}
 use Rattle.emp_ast.specs.Value.{value}
 use Rattle.emp_ast.specs.Meets.{MeetsEquation, IsBelow, MeetsBounds}
 use Rattle.emp_ast.specs.Blocks.{no_variable, defines_objective, is_constraint}
-use Rattle.emp_ast.specs.Solved.{IsRival, IsSolved, AreMultipliers, IsEquilibrium}
+use Rattle.emp_ast.specs.Solved.{IsGivenValue, IsRival, IsSolved, AreMultipliers, IsEquilibrium}
 
 -- ---- short forms
 abbrev pub var : ℕ → VarId
@@ -137,6 +137,11 @@ pub record ExamplesOfDefinitions : Type 0 where
   pub function_is_none : constrains_vi 0 ≡ false
   pub beside_a_pair_is_one : constrains_vi 1 ≡ true
   pub not_listed : is_constraint (model free_pair (c_is_square ∷ x_from_one ∷ [])) (annot (min_c (equ 0 ∷ []) ∷ []) [] []) 0 (min_c (equ 0 ∷ [])) 1 ≡ false
+
+-- ---- given values: that of c by c =e= x*x at c = 7 and x = 3
+pub record ExamplesOfGivenValues : Type 0 where
+  pub nine : IsGivenValue c_is_square 0 (whole_point (pos 7 ∷ pos 3 ∷ [])) (ratio (pos 9) (pos 1))
+  pub not_its_own : IsGivenValue c_is_square 0 (whole_point (pos 7 ∷ pos 3 ∷ [])) (ratio (pos 7) (pos 1)) → ⊥
 
 -- ---- rivals: `min c x d k` with d.. c =e= x*x and k.. x =g= 1
 abbrev pub held : Model

@@ -1,7 +1,7 @@
 //! What the definitions say of small models.
 //!
 //! No function here runs. Each states that the right point meets a definition and that a wrong one does not.
-ghost use Rattle.emp_ast.specs.Examples.{ExamplesOfValues, ExamplesOfDefinitions, ExamplesOfRivals, ExamplesOfInequalities, ExamplesOfAgents, ExamplesOfMultipliers, ExamplesOfSharing, ExamplesOfSigns, ExamplesOfRations};
+ghost use Rattle.emp_ast.specs.Examples.{ExamplesOfValues, ExamplesOfDefinitions, ExamplesOfGivenValues, ExamplesOfRivals, ExamplesOfInequalities, ExamplesOfAgents, ExamplesOfMultipliers, ExamplesOfSharing, ExamplesOfSigns, ExamplesOfRations};
 
 /// The values of expressions, equations and bounds at points.
 pub fn examples_of_values()
@@ -11,6 +11,11 @@ pub fn examples_of_values()
 /// Which equation defines an objective, and which are constraints.
 pub fn examples_of_definitions()
     ensures { ExamplesOfDefinitions }
+{}
+
+/// The value that a definition gives to its variable.
+pub fn examples_of_given_values()
+    ensures { ExamplesOfGivenValues }
 {}
 
 /// The rivals of an agent.
