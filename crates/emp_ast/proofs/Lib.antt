@@ -1,0 +1,4 @@
+pub mod ExampleLaws
+pub mod ExampleAgents
+pub mod ExampleSharing
+pub mod ExampleSigns
