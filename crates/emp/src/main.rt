@@ -1,18 +1,27 @@
-//! The program: its desk of real files, and its entry.
+//! The program: hands its words and the desk of real files to the call `run`.
 #![tactic(auto)]
 
 mod file_desk;
 
-use emp_desk::desk::{Desk, StoreFault};
+use emp_engine::run::run;
 use file_desk::FileDesk;
 use std::process::ExitCode;
+use std::{env, io};
 
-/// Says one line through the desk of real files.
+/// The words without the program's name.
+fn words(rt: &HostRuntime) -> io::Result<Vec<String>> {
+    let mut words = Vec::new(rt.alloc());
+    for word in env::args(rt)?.skip(1) {
+        words.push(word)?;
+    }
+    Ok(words)
+}
+
+/// Ends with the answer of `run`, or with 9 where the words cannot be had from the system.
 fn main(rt: HostRuntime) -> ExitCode {
-    let mut desk = FileDesk::new(rt);
-    match desk.say("emp\n".as_bytes()) {
-        Ok(()) => ExitCode::from(0),
-        Err(StoreFault::Failed) => ExitCode::from(1),
-        Err(StoreFault::NoMemory) => ExitCode::from(2),
+    let alloc = rt.alloc();
+    match words(&rt) {
+        Ok(words) => ExitCode::from(run(alloc, words.as_slice(), &mut FileDesk::new(rt))),
+        Err(_) => ExitCode::from(9),
     }
 }
