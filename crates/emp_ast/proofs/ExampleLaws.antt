@@ -11,7 +11,7 @@ use Rattle.emp_num.specs.Point.{Point, coordinate}
 use Rattle.emp_ast.specs.declared.model.Variable.{Variable}
 use Rattle.emp_ast.specs.Meets.{MeetsEquation, MeetsBounds}
 use Rattle.emp_ast.specs.Blocks.{no_variable, owns, is_constraint, defines_objective}
-use Rattle.emp_ast.specs.Solved.{IsGivenValue, Fits, IsFree, IsRival, IsSolved, AreMultipliers, is_priced, IsEquilibrium}
+use Rattle.emp_ast.specs.Solved.{Fits, IsFree, IsRival, IsSolved, AreMultipliers, is_priced, IsEquilibrium}
 use Rattle.emp_ast.specs.Examples.{ExamplesOfValues, ExamplesOfDefinitions, ExamplesOfGivenValues, ExamplesOfRivals, ExamplesOfInequalities, whole_point, c_is_square, x_from_one, held, holder, held_by, sloped, slope, sloped_by, from_three}
 
 -- ---- each entry of a short list

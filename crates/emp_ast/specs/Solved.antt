@@ -1,12 +1,11 @@
 -- Rivals, agents solved, variational inequalities solved, multipliers, equilibria.
 -- Throughout, p is the point, m the model, a the annotation, and b block number k of it.
-use Rattle.std.specs.Prelude.{◌≡◌, ℕ, ◌<◌, ◌⊎◌, ℤ, pos, ◌≤ℤ◌, ◌<ℤ◌, Bool, true, false, ◌||◌, IsTrue, List, [], ◌∷◌, length, slice_get, slice_index_or, Option, Some, None, option_map, nat_eq}
+use Rattle.std.specs.Prelude.{◌≡◌, ℕ, ◌<◌, ◌⊎◌, pos, ◌≤ℤ◌, ◌<ℤ◌, Bool, true, false, ◌||◌, List, [], ◌∷◌, length, slice_get, Option, Some, None, option_map, nat_eq}
 use Rattle.std.specs.List.{list_any}
 use Rattle.emp_num.specs.Ratio.{Ratio, ratio, negated, plus, minus, times, SameRatio, AtMostRatio}
 use Rattle.emp_num.specs.Point.{Point, coordinate}
 use Rattle.emp_ast.specs.declared.tree.VarId.{VarId}
 use Rattle.emp_ast.specs.declared.tree.EquId.{EquId}
-use Rattle.emp_ast.specs.declared.tree.Tree.{Tree}
 use Rattle.emp_ast.specs.declared.model.Relation.{Relation}
 use Rattle.emp_ast.specs.declared.model.Relation.TheVariants.{Equal, AtLeast, AtMost, Nothing}
 use Rattle.emp_ast.specs.declared.model.Equation.{Equation}

@@ -1,38 +1,35 @@
 -- The points at which all rows of an outline are 0 are its equilibria.
-use Rattle.std.proofs.Common.{◌≡◌, ◌≢◌, ◌↔◌, ℕ, zero, suc, ◌+◌, ◌-◌, ◌<◌, ◌≤◌, ◌⊎◌, inl, inr, ℤ, pos, neg_ℤ, ◌+ℤ◌, ◌-ℤ◌, ◌*ℤ◌, ◌<ℤ◌, ◌≤ℤ◌, Bool, true, false, cond, ◌&&◌, ◌||◌, not, eqb, eqb-true, eq-eqb, List, [], ◌∷◌, ◌++◌, map, length, get_or, set, Option, Some, None, option_map, arith, refl, sym, ap, ap₂, subst, subst₂, ◌∙◌, All, AllPairs, length-set, get_or-set_same, get_or-set_other}
+use Rattle.std.proofs.Common.{◌≡◌, ◌≢◌, ℕ, zero, suc, ◌<◌, ◌⊎◌, inl, inr, ℤ, pos, neg_ℤ, ◌+ℤ◌, ◌-ℤ◌, ◌*ℤ◌, ◌<ℤ◌, ◌≤ℤ◌, Bool, true, false, ◌||◌, eqb, eq-eqb, List, [], ◌∷◌, map, length, get_or, set, Option, Some, option_map, arith, refl, sym, ap, ap₂, subst, subst₂, ◌∙◌, All, AllPairs, length-set, get_or-set_same, get_or-set_other}
 use Rattle.std.specs.List.{slice_get, list_any}
 use Rattle.std.proofs.lemmas.List.{get_or-map, length-map}
 use Rattle.std.proofs.lemmas.List.Elements.{All-head, All-tail}
-use Rattle.std.proofs.lemmas.Option.{slice_get-map, slice_get_within, get_or_from_slice_get, slice_get-get_or}
+use Rattle.std.proofs.lemmas.Option.{slice_get_within, get_or_from_slice_get, slice_get-get_or}
 use Rattle.std.proofs.lemmas.Int.{ints}
 use lib.IntN.{zero-*ℤ, *ℤ-zero}
-use Rattle.emp_algebra.proofs.Laws.{mul_pos, mul_nonneg}
-use Rattle.emp_algebra.proofs.Order.{linear, cancel_right, le_cancel_right, le_or_lt, square_nonneg, mul_lt_right}
+use Rattle.emp_algebra.proofs.Laws.{mul_pos}
+use Rattle.emp_algebra.proofs.Order.{linear, cancel_right, le_cancel_right}
 use Rattle.emp_algebra.proofs.Ring.{var, lit, neg, ◌⊕◌, ◌⊖◌, ◌⊗◌, by_ring}
 use Rattle.emp_algebra.specs.Vector.{cell, dot, scale}
 use Rattle.emp_algebra.proofs.Vectors.{length-scale, cell-scale}
 use Rattle.emp_num.specs.Ratio.{Ratio, ratio, plus, minus, times, SameRatio}
 use Rattle.emp_num.specs.Point.{Point, coordinate}
-use Rattle.emp_ast.specs.declared.tree.VarId.{VarId}
 use Rattle.emp_ast.specs.declared.tree.EquId.{EquId}
-use Rattle.emp_ast.specs.declared.model.Relation.TheVariants.{Nothing}
 use Rattle.emp_ast.specs.declared.model.Equation.{Equation}
 use Rattle.emp_ast.specs.declared.model.Variable.{Variable}
 use Rattle.emp_ast.specs.declared.model.Model.{Model}
 use Rattle.emp_ast.specs.declared.annot.Block.{Block}
-use Rattle.emp_ast.specs.declared.annot.Block.TheVariants.{Agent, Vi}
-use Rattle.emp_ast.specs.declared.annot.Annot.{Annot}
+use Rattle.emp_ast.specs.declared.annot.Block.TheVariants.{Vi}
 use Rattle.emp_ast.specs.Value.{value, both}
 use Rattle.emp_ast.specs.Meets.{MeetsEquation, MeetsBounds}
-use Rattle.emp_ast.specs.Blocks.{owns, is_constraint, constraints, defines_objective, names_equ}
-use Rattle.emp_ast.specs.Solved.{Fits, AgreesOutside, IsFree, IsRival, sides_gap, gap, flow, IsAtLeastZero, IsSolvedVi, IsSolved, has_dual, is_priced, IsEquilibrium}
+use Rattle.emp_ast.specs.Blocks.{owns, constraints, names_equ}
+use Rattle.emp_ast.specs.Solved.{Fits, IsRival, sides_gap, gap, flow, IsAtLeastZero, IsSolvedVi, IsSolved, has_dual, IsEquilibrium}
 use Rattle.emp_rows.specs.declared.affine.Affine.{Affine}
-use Rattle.emp_rows.specs.Affine.{value_times, AllVanish, primitive_of}
+use Rattle.emp_rows.specs.Affine.{value_times, AllVanish}
 use Rattle.emp_rows.proofs.Primitive.{primitive_zeros}
 use Rattle.emp_engine.specs.declared.outline.Outline.{Outline}
 use Rattle.emp_engine.specs.declared.outline.Term.{Term}
 use Rattle.emp_engine.specs.declared.outline.Pair.{Pair}
-use Rattle.emp_engine.specs.Form.{IsSum, ArePairs, IsSound}
+use Rattle.emp_engine.specs.Form.{IsSum, IsSound}
 use Rattle.emp_engine.specs.Meaning.{sum_nodes, tree_of, free_variable, equation_of, equations_of, model_of, pair_of, annot_of, sum_cells, sum_constant, row_of, rows_of}
 use Rattle.emp_engine.proofs.SumValue.{HasValue, minus_value, sum_value, sum_ends, coefficients_value}
 

@@ -1,5 +1,5 @@
 -- Texts that are loaded with one byte more than the longest has.
-use Rattle.std.proofs.Common.{◌≡◌, ℕ, ◌<◌, ◌≤◌, ◌⊎◌, inl, inr, List, [], ◌∷◌, take, length, Option, Some, None, Result, Ok, Err, arith, refl, sym, ap, subst, subst₂, ◌∙◌}
+use Rattle.std.proofs.Common.{◌≡◌, ℕ, ◌<◌, ◌≤◌, List, take, length, Option, Result, Ok, Err, arith, sym, ap, subst, subst₂, ◌∙◌}
 use Rattle.std.specs.Result.{MatchResult, IfOk, IfErr}
 use Rattle.std.proofs.lemmas.List.{take_all, length-take}
 use Rattle.emp_desk.specs.Desk.{Place, Contents, Told, KeepsAll, Loads}

@@ -1,8 +1,7 @@
 -- How a call ends, from how its steps end.
-use Rattle.std.proofs.Common.{◌≡◌, ℕ, ◌<◌, ◌≤◌, ◌+◌, ◌⊎◌, inl, inr, List, [], ◌∷◌, ◌++◌, Option, Some, None, arith, refl, sym, ap, subst, subst₂, ◌∙◌, le_refl}
+use Rattle.std.proofs.Common.{◌≡◌, ℕ, ◌⊎◌, inl, inr, List, [], ◌++◌, Option, Some, None, arith, refl, sym, ap, subst, subst₂, ◌∙◌, le_refl}
 use Rattle.std.proofs.lemmas.List.{append-nil}
-use Rattle.emp_desk.specs.Desk.{Place, loads, output, Contents, Told, KeepsAll, KeepsFiles, Says, SaysPrefix, IsPrefix, Rose, NoneFalls}
-use Rattle.emp_engine.specs.declared.fault_line.Input.{Input}
+use Rattle.emp_desk.specs.Desk.{Place, loads, output, Contents, Told, KeepsAll, KeepsFiles, Says, SaysPrefix, Rose, NoneFalls}
 use Rattle.emp_engine.specs.declared.fault_line.Input.TheVariants.{Model, Annotation}
 use Rattle.emp_engine.specs.declared.fault_line.Fault.{Fault}
 use Rattle.emp_engine.specs.declared.fault_line.Fault.TheVariants.{NotYet, Unread, NoMemory, Wide}
@@ -10,7 +9,7 @@ use Rattle.emp_engine.specs.declared.decide.Answer.{Answer}
 use Rattle.emp_engine.specs.FaultLine.{line_of, status_of}
 use Rattle.emp_engine.specs.Report.{not_yet_line}
 use Rattle.emp_engine.specs.Run.{AsksSolve, IsPlain, Decides, other_form, point, none, wide, IsDue, bad_words, decided, unread_model, unread_info, no_memory, IsSaid, SaysDue, SaysPartOfDue, IsWhole, SaysEquilibrium, ShowsNone, SomeLoadRose, NothingRose, ReportsEquilibrium, HasNoEquilibrium}
-use Rattle.emp_engine.specs.Steps.{IsAnswer, AnswersFiles, FaultsFiles, IsCause, SayEnds, Ends}
+use Rattle.emp_engine.specs.Steps.{AnswersFiles, FaultsFiles, IsCause, SayEnds, Ends}
 use Rattle.emp_engine.proofs.Telling.{told_join, told_both, told_map, rose_first, rose_second}
 use Rattle.emp_engine.proofs.WalkGives.{point_reports, refuted_none}
 

@@ -1,5 +1,5 @@
 -- The walk over an outline's rows decides what its texts say.
-use Rattle.std.proofs.Common.{◌≡◌, ℕ, ◌+◌, ◌<◌, ◌≤◌, ◌^◌, ◌⊎◌, inl, inr, List, [], length, map, get_or, Result, Ok, Err, ℤ, arith, refl, sym, ap, ap₂, subst, subst₂, ◌∙◌}
+use Rattle.std.proofs.Common.{◌≡◌, ℕ, ◌+◌, ◌≤◌, inl, inr, List, [], length, get_or, Result, Ok, Err, ℤ, arith, refl, sym, ap, ap₂, subst, subst₂, ◌∙◌}
 use Rattle.std.specs.Result.{MatchResult}
 use Rattle.std.proofs.lemmas.List.{length-map}
 use Rattle.emp_num.specs.declared.frac.Frac.{Frac}
@@ -7,7 +7,7 @@ use Rattle.emp_rows.specs.declared.affine.Affine.{Affine}
 use Rattle.emp_rows.specs.declared.walk.Verdict.{Verdict}
 use Rattle.emp_rows.specs.declared.walk.Verdict.TheVariants.{Point, Missing}
 use Rattle.emp_rows.specs.declared.walk.Verdict.TheVariants.{Wide as TooWide}
-use Rattle.emp_rows.specs.Walk.{Dictionary, Decision, solved, refuted, too_wide, walk_of, ArePoint, IsVerdict}
+use Rattle.emp_rows.specs.Walk.{Decision, solved, refuted, too_wide, walk_of, IsVerdict}
 use Rattle.emp_rows.proofs.WalkCount.{few_pivots}
 use Rattle.emp_engine.specs.declared.outline.Outline.{Outline}
 use Rattle.emp_engine.specs.declared.fault_line.Fault.{Fault}
@@ -15,8 +15,8 @@ use Rattle.emp_engine.specs.declared.fault_line.Fault.TheVariants.{NotYet, Unrea
 use Rattle.emp_engine.specs.declared.decide.Answer.{Answer}
 use Rattle.emp_engine.specs.Form.{IsSound, IsForm}
 use Rattle.emp_engine.specs.Meaning.{row_of, rows_of}
-use Rattle.emp_engine.specs.Report.{equilibrium_report, missing_report, wide_line, not_yet_line}
-use Rattle.emp_engine.specs.Run.{Decides, other_form, point, none, wide}
+use Rattle.emp_engine.specs.Report.{equilibrium_report, missing_report}
+use Rattle.emp_engine.specs.Run.{Decides, point, none, wide}
 use Rattle.emp_engine.specs.Steps.{Settles, settled_point, settled_none, IsAnswerOf, IsWalkFault, IsAnswer, IsFaultOf}
 
 -- there are at most 32 rows

@@ -1,12 +1,11 @@
 -- The value of a sum's expression at a point is that of its coefficients.
-use Rattle.std.proofs.Common.{◌≡◌, ℕ, zero, suc, ◌+◌, ◌-◌, ◌<◌, ◌≤◌, ◌^◌, ℤ, pos, neg_ℤ, ◌+ℤ◌, ◌-ℤ◌, ◌*ℤ◌, ◌<ℤ◌, Bool, true, false, nat_lt, List, [], ◌∷◌, ◌++◌, fold, length, get_or, replicate, Option, Some, None, option_map, arith, refl, sym, ap, ap₂, subst, subst₂, ◌∙◌, zero-add, append_assoc, length-append, lt-ltb, All}
+use Rattle.std.proofs.Common.{◌≡◌, ℕ, zero, suc, ◌+◌, ◌<◌, ◌≤◌, ◌^◌, ℤ, pos, neg_ℤ, ◌+ℤ◌, ◌-ℤ◌, ◌*ℤ◌, ◌<ℤ◌, Bool, true, false, nat_lt, List, [], ◌∷◌, ◌++◌, fold, length, replicate, Option, Some, None, option_map, arith, refl, sym, ap, ap₂, subst, subst₂, ◌∙◌, zero-add, append_assoc, length-append, lt-ltb, All}
 use Rattle.std.proofs.lemmas.List.{get_or_append_left, get_or-append-add, length-replicate, length-set}
 use Rattle.std.proofs.lemmas.List.Sums.{fold-append}
 use Rattle.std.proofs.lemmas.List.Elements.{All-head, All-tail}
 use Rattle.std.proofs.Math.Seq.{get_or-append_seam}
 use Rattle.std.proofs.lemmas.Int.{ints}
 use Rattle.emp_algebra.proofs.Laws.{mul_pos}
-use Rattle.emp_algebra.proofs.Order.{linear}
 use Rattle.emp_algebra.proofs.Ring.{var, lit, neg, ◌⊕◌, ◌⊖◌, ◌⊗◌, by_ring}
 use Rattle.emp_algebra.specs.Vector.{cell, dot}
 use Rattle.emp_algebra.proofs.Vectors.{dot-set_cell}
@@ -14,13 +13,13 @@ use Rattle.emp_num.specs.Ratio.{Ratio, ratio, negated, plus, minus, times}
 use Rattle.emp_num.specs.Point.{Point, coordinate}
 use Rattle.emp_num.specs.Whole.{whole, whole_by}
 use Rattle.emp_ast.specs.declared.tree.Node.{Node}
-use Rattle.emp_ast.specs.declared.tree.Node.TheVariants.{Number, Var, Neg, Add, Sub, Mul}
-use Rattle.emp_ast.specs.Value.{found, both, node_value, values, value}
+use Rattle.emp_ast.specs.declared.tree.Node.TheVariants.{Number, Var, Neg, Mul}
+use Rattle.emp_ast.specs.Value.{found, both, node_value, values}
 use Rattle.emp_engine.specs.declared.outline.Term.{Term}
 use Rattle.emp_engine.specs.declared.outline.Product.{Product}
 use Rattle.emp_engine.specs.declared.outline.Product.TheVariants.{Constant, Plain, Multiple}
 use Rattle.emp_engine.specs.Form.{product_number, sum_variables, product_variables}
-use Rattle.emp_engine.specs.Meaning.{product_nodes, root_of, join_node, with_term, lead_nodes, sum_nodes, tree_of, signed, raised, product_cells, product_constant, sum_cells, sum_constant, var_id}
+use Rattle.emp_engine.specs.Meaning.{product_nodes, root_of, join_node, with_term, lead_nodes, sum_nodes, signed, raised, product_cells, product_constant, sum_cells, sum_constant, var_id}
 
 -- ---- the list of values
 -- the value is there, and is v over d

@@ -1,5 +1,5 @@
 -- Facts on what a desk tells, joined over calls.
-use Rattle.std.proofs.Common.{◌≡◌, ℕ, ◌<◌, ◌≤◌, ◌⊎◌, inl, inr, ◌-◌, ◌^◌, Option, Some, None, arith}
+use Rattle.std.proofs.Common.{◌≡◌, ℕ, ◌<◌, ◌≤◌, ◌⊎◌, inl, inr, Option, Some, None, arith}
 use Rattle.emp_desk.specs.Desk.{Contents, Told, Rose}
 
 pub told_join : (P Q R : Contents → Contents → Type 0) → ((x y z : Contents) → P x y → Q y z → R x z) → (a b c : Option Contents) → Told P a b → Told Q b c → Told R a c

@@ -1,5 +1,5 @@
 -- Words of the command line: three of them, and equal bytes.
-use Rattle.std.proofs.Common.{◌≡◌, ℕ, suc, zero, ◌<◌, ◌≤◌, List, [], ◌∷◌, length, get_or, arith, refl, ap₂, Bool, true, false, ◌&&◌, eqb, eqb-true}
+use Rattle.std.proofs.Common.{◌≡◌, ℕ, ◌<◌, ◌≤◌, List, [], ◌∷◌, length, get_or, arith, refl, ap₂, Bool, true, false, ◌&&◌, eqb, eqb-true}
 use Rattle.std.specs.Cmp.Lexicographic.{pointwise}
 
 pub three_items : {X : Type 0} (xs : List X) (a b c : X) → 3 ≤ length xs → length xs < 4 → a ≡ get_or xs 0 a → b ≡ get_or xs 1 b → c ≡ get_or xs 2 c → xs ≡ a ∷ b ∷ c ∷ []

@@ -1,13 +1,11 @@
 -- What the walk's decision says of the two texts.
-use Rattle.std.proofs.Common.{◌≡◌, ℕ, zero, suc, ◌+◌, ◌<◌, ℤ, pos, List, [], ◌∷◌, map, fold, length, replicate, get_or, arith, refl, sym, ap, subst, ◌∙◌, All}
+use Rattle.std.proofs.Common.{◌≡◌, ℕ, suc, ◌+◌, ◌<◌, ℤ, pos, List, [], ◌∷◌, map, fold, length, replicate, get_or, refl, sym, ap, subst, ◌∙◌, All}
 use Rattle.std.proofs.lemmas.List.{get_or-map, length-map, length-replicate}
 use Rattle.emp_num.specs.declared.frac.Frac.{Frac}
-use Rattle.emp_num.specs.Point.{Point, StandsFor}
 use Rattle.emp_num.proofs.Commons.{common_point, stands_for_common}
-use Rattle.emp_ast.specs.Solved.{IsEquilibrium}
 use Rattle.emp_ast.specs.declared.model.Variable.{Variable}
 use Rattle.emp_rows.specs.declared.affine.Affine.{Affine}
-use Rattle.emp_rows.specs.Affine.{quotients, divisor_of, primitive_of, AllVanish}
+use Rattle.emp_rows.specs.Affine.{quotients}
 use Rattle.emp_rows.specs.Walk.{Dictionary, solved, refuted, walk_of, ArePoint}
 use Rattle.emp_rows.proofs.WalkLaws.{walk_vanishes, walk_refutes}
 use Rattle.emp_engine.specs.declared.outline.Outline.{Outline}
@@ -16,7 +14,7 @@ use Rattle.emp_engine.specs.declared.outline.Pair.{Pair}
 use Rattle.emp_engine.specs.Form.{IsForm}
 use Rattle.emp_engine.specs.Meaning.{free_variable, product_cells, sum_cells, model_of, annot_of, row_of, rows_of}
 use Rattle.emp_engine.specs.Report.{equilibrium_report}
-use Rattle.emp_engine.specs.Run.{TextsSay, ReportsEquilibrium, HasNoEquilibrium}
+use Rattle.emp_engine.specs.Run.{ReportsEquilibrium, HasNoEquilibrium}
 use Rattle.emp_engine.proofs.SumValue.{length-product_cells}
 use Rattle.emp_engine.proofs.FirstLaw.{vanish_gives_equilibrium, equilibrium_gives_vanish}
 

@@ -1,5 +1,5 @@
 -- The model and the annotation that an outline stands for, and its rows.
-use Rattle.std.specs.Prelude.{◌≡◌, ℕ, ◌+◌, ◌-◌, ℤ, pos, neg_ℤ, ◌+ℤ◌, Bool, true, false, List, [], ◌∷◌, ◌++◌, map, fold, length, replicate, slice_set, slice_index_or, Option, None}
+use Rattle.std.specs.Prelude.{ℕ, ◌+◌, ◌-◌, ℤ, pos, neg_ℤ, ◌+ℤ◌, Bool, true, false, List, [], ◌∷◌, ◌++◌, map, fold, length, replicate, slice_set, slice_index_or, None}
 use Rattle.emp_algebra.specs.Vector.{cell}
 use Rattle.emp_num.specs.Whole.{whole}
 use Rattle.emp_ast.specs.declared.tree.VarId.{VarId}

@@ -6,7 +6,7 @@ use Rattle.emp_ast.specs.declared.model.Model.{Model}
 use Rattle.emp_ast.specs.declared.annot.Annot.{Annot}
 use Rattle.emp_ast.specs.Solved.{IsEquilibrium}
 use Rattle.emp_rows.specs.Walk.{Dictionary, solved, refuted, too_wide, walk_of, ArePoint}
-use Rattle.emp_desk.specs.Desk.{Place, loads, stores, output, Contents, Told, KeepsFiles, Says, SaysPrefix, Rose}
+use Rattle.emp_desk.specs.Desk.{Place, loads, output, Contents, Says, SaysPrefix, Rose}
 use Rattle.emp_engine.specs.declared.outline.Outline.{Outline}
 use Rattle.emp_engine.specs.Form.{IsForm}
 use Rattle.emp_engine.specs.Meaning.{model_of, annot_of, rows_of}

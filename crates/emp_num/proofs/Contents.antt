@@ -3,7 +3,6 @@ use Prim.Native.Nat.{◌∣◌}
 use Rattle.std.specs.Int.{IsGcd}
 use Rattle.std.proofs.lemmas.Nat.Gcd.{dvd_trans, dvd-zero}
 use Rattle.emp_num.specs.Content.{IsContent}
-use Rattle.emp_num.specs.Exact.{IsNarrow}
 
 pub content_none : (xs : List ℤ) → IsContent 0 xs 0
 content_none xs = record { divides = λ k h. absurd (omega arith); greatest = λ m h. dvd-zero m }

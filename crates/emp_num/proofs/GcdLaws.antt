@@ -1,8 +1,7 @@
 -- The greatest common divisor as a function divides what it is taken of.
-use Rattle.std.proofs.Common.{ℕ, zero, suc, ◌%◌, ◌<◌, arith, refl, ℤ, List, [], ◌∷◌, All, unsigned_abs, mod-lt}
+use Rattle.std.proofs.Common.{ℕ, ℤ, List, [], ◌∷◌, All, unsigned_abs}
 use Prim.Native.Nat.{◌∣◌}
-use Rattle.std.specs.Int.{IsGcd}
-use Rattle.std.proofs.lemmas.Nat.Gcd.{dvd_refl, dvd_trans, IsGcd-from_zero, IsGcd-from_mod}
+use Rattle.std.proofs.lemmas.Nat.Gcd.{dvd_refl, dvd_trans}
 use Rattle.std.proofs.lemmas.List.Elements.{All-nil, All-cons}
 use Rattle.emp_num.specs.Gcd.{gcd_of, content_from}
 use Rattle.emp_num.proofs.Divisors.{IsGcd-gcd_of}

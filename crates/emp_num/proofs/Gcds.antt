@@ -1,5 +1,5 @@
 -- Greatest common divisors: bounds, scaling and Gauss's lemma.
-use Rattle.std.proofs.Common.{◌≡◌, ℕ, zero, suc, ◌+◌, ◌*◌, ◌%◌, ◌<◌, ◌≤◌, arith, refl, sym, ap, ◌∙◌, subst, zero-lt-suc, subst₂, mul_comm, mul-one, List, [], ◌∷◌, ◌⊎◌, inl, inr, ◌≤ℤ◌, ◌<ℤ◌, ℤ, pos, negsuc, neg_ℤ, ◌+ℤ◌, ◌*ℤ◌, unsigned_abs, int_div, int_rem}
+use Rattle.std.proofs.Common.{◌≡◌, ℕ, zero, suc, ◌*◌, ◌<◌, ◌≤◌, arith, refl, sym, ap, ◌∙◌, subst, zero-lt-suc, subst₂, mul_comm, mul-one, [], ◌∷◌, ◌⊎◌, inl, inr, ◌≤ℤ◌, ◌<ℤ◌, ℤ, pos, negsuc, neg_ℤ, ◌+ℤ◌, ◌*ℤ◌, unsigned_abs, int_div, int_rem}
 use lib.IntN.{+ℤ_idr, zero-*ℤ}
 use Rattle.emp_algebra.proofs.Order.{le_or_lt, mul_le_right, linear}
 use Rattle.emp_algebra.proofs.Laws.{mul_pos}
@@ -9,7 +9,7 @@ use Rattle.std.proofs.lemmas.Int.{quot-rem, unsigned_abs-mul, ints, to_z-of_z}
 use Prim.Native.Nat.{◌∣◌}
 use native.Mathlib.Nat.{eq-zero_of_zero-dvd, pos_of_dvd_of_pos, mul-dvd-mul_right, dvd_of_mul-dvd-mul_left, eq-one_of_dvd-one}
 use Rattle.std.specs.Int.{IsGcd}
-use Rattle.std.proofs.lemmas.Nat.Gcd.{dvd_refl, dvd-zero, le_of_dvd, mod-eq-zero_of_dvd, IsGcd-from_zero, IsGcd-from_mod}
+use Rattle.std.proofs.lemmas.Nat.Gcd.{dvd-zero, le_of_dvd, mod-eq-zero_of_dvd}
 
 pub gcd_below : (a b m g : ℕ) → IsGcd a b g → a < m → b < m → g < m
 gcd_below zero zero m g h p q = let e : g ≡ 0 = eq-zero_of_zero-dvd (h.2 0 (dvd-zero 0) (dvd-zero 0)) in omega arith

@@ -1,10 +1,10 @@
 -- Two fractions in lowest terms that are equal as numbers have the same numerator and denominator.
-use Rattle.std.proofs.Common.{ℕ, zero, suc, ◌+◌, ◌*◌, ◌%◌, ◌<◌, ◌≤◌, ◌≡◌, ◌⊎◌, inl, inr, ℤ, pos, negsuc, ◌*ℤ◌, ◌<ℤ◌, unsigned_abs, List, [], ◌∷◌, arith, refl, sym, ap, ap₂, subst, subst₂, ◌∙◌, mul_comm, ◌/◌, mod-lt, mod-eq_of_lt}
+use Rattle.std.proofs.Common.{ℕ, zero, suc, ◌+◌, ◌*◌, ◌%◌, ◌<◌, ◌≡◌, ℤ, pos, ◌*ℤ◌, ◌<ℤ◌, unsigned_abs, arith, refl, sym, ap, subst, ◌∙◌, mul_comm, ◌/◌, mod-lt, mod-eq_of_lt}
 use Prim.Native.Nat.{◌∣◌}
 use native.Mathlib.Nat.{dvd-mod_iff, dvd-mul_left, one-dvd, div-add-mod, mul-add-mod_self_left, mul-lt-mul_of_pos_left}
 use Rattle.std.specs.Int.{IsGcd}
 use Rattle.std.proofs.lemmas.Int.{ints, unsigned_abs-mul}
-use Rattle.std.proofs.lemmas.Nat.Gcd.{dvd_refl, dvd-zero, dvd_trans, dvd_antisymm, IsGcd-from_zero, IsGcd-from_mod, same_from_IsGcd}
+use Rattle.std.proofs.lemmas.Nat.Gcd.{dvd_refl, dvd-zero, dvd_antisymm, IsGcd-from_zero, IsGcd-from_mod, same_from_IsGcd}
 use Rattle.emp_algebra.proofs.Order.{cancel_right}
 use Rattle.emp_num.specs.Exact.{IsCoprime}
 

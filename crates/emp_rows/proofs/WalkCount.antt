@@ -1,5 +1,5 @@
 -- The walk makes at most one pivot per row.
-use Rattle.std.proofs.Common.{◌≡◌, ℕ, zero, suc, ◌+◌, ◌≤◌, Bool, true, false, cond, List, [], ◌∷◌, length, Option, Some, None, arith, refl, subst, sym, ◌∙◌}
+use Rattle.std.proofs.Common.{◌≡◌, ℕ, zero, suc, ◌+◌, ◌≤◌, Bool, true, false, cond, List, length, Option, Some, None, arith}
 use Rattle.emp_rows.specs.declared.line.Line.{Line}
 use Rattle.emp_rows.specs.declared.affine.Affine.{Affine}
 use Rattle.emp_rows.specs.declared.walk.Verdict.{Verdict}

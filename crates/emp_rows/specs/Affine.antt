@@ -1,5 +1,5 @@
 -- Affine quantities with whole numbers, and their values at a point.
-use Rattle.std.specs.Prelude.{◌≡◌, ℕ, zero, suc, ◌<◌, ℤ, pos, ◌+ℤ◌, ◌*ℤ◌, List, [], ◌∷◌, All, length, int_div}
+use Rattle.std.specs.Prelude.{◌≡◌, ℕ, zero, suc, ℤ, pos, ◌+ℤ◌, ◌*ℤ◌, List, [], ◌∷◌, All, length, int_div}
 use Rattle.emp_algebra.specs.Vector.{dot}
 use Rattle.emp_num.specs.Exact.{IsNarrow}
 use Rattle.emp_num.specs.Gcd.{content_of}

@@ -1,6 +1,6 @@
 -- Lines of a dictionary and their exchange, in whole numbers without bound.
 -- A line says `denom * v = constant + sum of cells * w`, where v is the line's own quantity and the w are those of the columns.
-use Rattle.std.specs.Prelude.{ℕ, zero, suc, ◌≤◌, ◌+◌, ◌^◌, ℤ, pos, negsuc, neg_ℤ, ◌+ℤ◌, ◌*ℤ◌, Bool, true, false, cond, ◌||◌, nat_le, List, [], ◌∷◌, Option, Some, None, option_map, slice_set, slice_index_or, unsigned_abs, int_div, nat_eq}
+use Rattle.std.specs.Prelude.{ℕ, zero, suc, ◌+◌, ◌^◌, ℤ, pos, negsuc, neg_ℤ, ◌+ℤ◌, ◌*ℤ◌, Bool, true, false, cond, ◌||◌, nat_le, List, [], ◌∷◌, Option, Some, None, slice_set, slice_index_or, unsigned_abs, int_div, nat_eq}
 use Rattle.emp_algebra.specs.Vector.{cell, scale, add_rows}
 use Rattle.emp_num.specs.Gcd.{gcd_of, content_of}
 use Rattle.emp_rows.specs.declared.line.Line.{Line}

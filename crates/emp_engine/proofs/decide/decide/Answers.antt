@@ -1,4 +1,3 @@
-use Rattle.std.proofs.Common.{sym}
 use Rattle.emp_engine.specs.Run.{other_form}
 use Rattle.emp_engine.proofs.Settling.{settled_decides}
 use Rattle.emp_engine.proofs.decide.decide.Goals as goal

@@ -1,4 +1,4 @@
-use Rattle.std.proofs.Common.{◌≡◌, ℕ, List, [], ◌∷◌, refl, ap, sym, subst, ◌∙◌, map, string_bytes, codes}
+use Rattle.std.proofs.Common.{◌≡◌, [], ◌∷◌, refl, ap, sym, subst, ◌∙◌, map, string_bytes, codes}
 use Rattle.emp_engine.specs.Run.{IsFileWord}
 use Rattle.emp_engine.proofs.ThreeItems.{three_items, ap₃, same_bytes}
 use Rattle.emp_engine.proofs.words.asked.Goals as goal

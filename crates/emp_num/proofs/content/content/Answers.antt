@@ -1,4 +1,4 @@
-use Rattle.std.proofs.Common.{ℕ, ◌≡◌, ℤ, pos, get_or, unsigned_abs, to_z, of_z, arith, rules}
+use Rattle.std.proofs.Common.{pos, get_or, unsigned_abs, to_z, rules}
 use mir.Syntax.{w128}
 use mir.Val.{SFits}
 use Rattle.std.specs.Int.{IsGcd}

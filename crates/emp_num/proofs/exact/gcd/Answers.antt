@@ -1,4 +1,4 @@
-use Rattle.std.proofs.Common.{ℕ, ◌<◌, ◌^◌, ◌≡◌, pos, arith, to_z, rules, refl, subst₂, unsigned_abs}
+use Rattle.std.proofs.Common.{◌<◌, ◌^◌, ◌≡◌, pos, arith, to_z, refl, subst₂, unsigned_abs}
 use mir.Syntax.{w128}
 use mir.Val.{SFits}
 use Rattle.std.specs.Int.{IsGcd}

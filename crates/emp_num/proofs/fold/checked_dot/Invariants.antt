@@ -1,6 +1,5 @@
 use Rattle.std.proofs.Common.{◌≡◌, drop}
 use Rattle.emp_num.specs.Fold.{checked_dot}
-use Rattle.emp_num.specs.Exact.{IsNarrow}
 use Rattle.emp_num.proofs.fold.checked_dot.Given as goal
 
 abbrev pub invariant-loop-i : goal.invariant-loop-i

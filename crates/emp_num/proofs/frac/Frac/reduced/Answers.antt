@@ -1,4 +1,4 @@
-use Rattle.std.proofs.Common.{ℕ, ◌≡◌, ◌<ℤ◌, pos, ◌*ℤ◌, ◌≤◌, to_z, of_z, unsigned_abs, arith, rules}
+use Rattle.std.proofs.Common.{◌≡◌, ◌<ℤ◌, pos, ◌*ℤ◌, unsigned_abs, arith, rules}
 use mir.Syntax.{w128}
 use mir.Val.{SFits}
 use Rattle.std.specs.Int.{IsGcd}
