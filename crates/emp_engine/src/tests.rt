@@ -1,0 +1,161 @@
+//! Worked rows of the program, over a desk in memory.
+use crate::run::run;
+use emp_desk::memory_desk::MemoryDesk;
+use std::alloc::{AllocError, Global};
+use std::test::Fail;
+
+const SYSTEM: &str = "Variables x, y;
+Equations f, g;
+f.. 2*x + y - 5 =n= 0;
+g.. x - y - 1 =n= 0;
+Model m / all /;
+Solve m using EMP;
+";
+
+const CLASH: &str = "Variables x, y;
+Equations f, g;
+f.. x + y - 1 =n= 0;
+g.. x + y - 2 =n= 0;
+Model m / all /;
+Solve m using EMP;
+";
+
+const LARGE: &str = "Variables x, y;
+Equations f, g;
+f.. 1000000000000000000*x + y =n= 0;
+g.. x + 1000000000000000000*y =n= 0;
+Model m / all /;
+Solve m using EMP;
+";
+
+const BOUNDED: &str = "Variables x, y;
+Positive Variables x;
+Equations f, g;
+f.. 2*x + y - 5 =n= 0;
+g.. x - y - 1 =n= 0;
+Model m / all /;
+Solve m using EMP;
+";
+
+const SINGLE: &str = "Variables x;
+Equations f;
+f.. 2*x - 4 =n= 0;
+Model m / all /;
+Solve m using EMP;
+";
+
+/// Two regions that trade: demand less supply is paired with each price, and the price gap with the trade.
+const REGIONS: &str = "VARIABLES North, South, Flow;
+EQUATIONS n, s, gap;
+N.. 120 - 3*NORTH - Flow =N= 0;
+S.. 60 - 2*south + flow =n= 0;
+Gap.. south - north - 4 =n= 0;
+MODEL Market / ALL /;
+SOLVE market USING emp;
+";
+
+const PAIRS: &str = "equilibrium\nvi f x g y\n";
+
+const SOLVED: &str = "equilibrium\nwork 3\nx = 2\ny = 1\n";
+
+fn texts(alloc: Global, all: &[&str]) -> Result<Vec<String>, AllocError> {
+    let mut texts = Vec::new(alloc);
+    for text in all {
+        texts.push(String::from_str(alloc, *text)?)?;
+    }
+    Ok(texts)
+}
+
+#[test]
+fn worked_rows(rt: HostRuntime) -> Result<(), Fail> {
+    let words = texts(rt.alloc(), &["solve", "m", "i"])?;
+    for (model, info, status, said) in [
+        (SYSTEM, PAIRS, 0, SOLVED),
+        (
+            CLASH,
+            PAIRS,
+            1,
+            "no equilibrium\nwork 2\nnodes 1\nrow -1 1\n",
+        ),
+        (LARGE, PAIRS, 19, "error 19: wide at node 1 pivot 2\n"),
+        (BOUNDED, PAIRS, 30, "error 30: not yet\n"),
+        (
+            SINGLE,
+            "equilibrium\nvi f x\n",
+            0,
+            "equilibrium\nwork 2\nx = 2\n",
+        ),
+        (
+            REGIONS,
+            "Equilibrium Vi n North s South gap Flow",
+            0,
+            "equilibrium\nwork 4\nNorth = 172/5\nSouth = 192/5\nFlow = 84/5\n",
+        ),
+    ] {
+        let mut desk = MemoryDesk::new(rt.alloc());
+        desk.put("m", model.as_bytes())?;
+        desk.put("i", info.as_bytes())?;
+        assert_eq!(rt;
+            run(rt.alloc(), words.as_slice(), &mut desk),
+            status,
+            "{model}"
+        );
+        assert!(rt; desk.output() == said.as_bytes(), "{model}");
+    }
+    Ok(())
+}
+
+#[test]
+fn failing_calls(rt: HostRuntime) -> Result<(), Fail> {
+    let words = texts(rt.alloc(), &["solve", "m", "i"])?;
+    for (call, status, said) in [
+        (1, 11, "error 11: cannot read file 1\n"),
+        (2, 11, "error 11: cannot read file 2\n"),
+        (3, 12, "equilibrium\n"),
+        (4, 0, SOLVED),
+    ] {
+        let mut desk = MemoryDesk::new(rt.alloc());
+        desk.put("m", SYSTEM.as_bytes())?;
+        desk.put("i", PAIRS.as_bytes())?;
+        desk.fail(call)?;
+        assert_eq!(rt;
+            run(rt.alloc(), words.as_slice(), &mut desk),
+            status,
+            "call {call}"
+        );
+        assert!(rt; desk.output().starts_with(said.as_bytes()), "call {call}");
+        assert!(rt;
+            SOLVED.as_bytes().starts_with(desk.output()) || status == 11,
+            "call {call}"
+        );
+    }
+    Ok(())
+}
+
+#[test]
+fn a_file_that_is_not_there(rt: HostRuntime) -> Result<(), Fail> {
+    let words = texts(rt.alloc(), &["solve", "m", "i"])?;
+    let mut desk = MemoryDesk::new(rt.alloc());
+    desk.put("m", SYSTEM.as_bytes())?;
+    assert_eq!(rt; run(rt.alloc(), words.as_slice(), &mut desk), 11);
+    assert!(rt; desk.output() == b"error 11: cannot read file 2\n".as_slice());
+    Ok(())
+}
+
+#[test]
+fn words_that_are_not_plain(rt: HostRuntime) -> Result<(), Fail> {
+    for all in [
+        [].as_slice(),
+        ["solve", "m"].as_slice(),
+        ["solve", "m", ""].as_slice(),
+        ["solve", "m", "-i"].as_slice(),
+        ["Solve", "m", "i"].as_slice(),
+        ["solve", "m", "i", "c"].as_slice(),
+    ] {
+        let words = texts(rt.alloc(), all)?;
+        let mut desk = MemoryDesk::new(rt.alloc());
+        assert_eq!(rt; run(rt.alloc(), words.as_slice(), &mut desk), 30);
+        assert!(rt; desk.output() == b"error 30: not yet\n".as_slice());
+    }
+    Ok(())
+}
