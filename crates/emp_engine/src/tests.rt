@@ -44,14 +44,32 @@ Model m / all /;
 Solve m using EMP;
 ";
 
-/// Two regions that trade: demand less supply is paired with each price, and the price gap with the trade.
-const REGIONS: &str = "VARIABLES North, South, Flow;
-EQUATIONS n, s, gap;
-N.. 120 - 3*NORTH - Flow =N= 0;
-S.. 60 - 2*south + flow =n= 0;
-Gap.. south - north - 4 =n= 0;
+/// The row of names and keywords in other cases than they are declared in.
+const CASES: &str = "VARIABLES X;
+EQUATIONS f;
+F.. 2*x - 4 =N= 0;
 MODEL Market / ALL /;
 SOLVE market USING emp;
+";
+
+/// `examples/regions.gms`.
+const REGIONS: &str = "Variables North, South, Flow;
+Equations n, s, gap;
+n.. 120 - 3*North - Flow =n= 0;
+s.. 60 - 2*South + Flow =n= 0;
+gap.. South - North - 4 =n= 0;
+Model market / all /;
+Solve market using EMP;
+";
+
+/// `examples/capacity.gms`.
+const CAPACITY: &str = "Variables day, night, price;
+Equations d, e, rent;
+d.. 40 - 2*day - price =n= 0;
+e.. 25 - night - price =n= 0;
+rent.. day + night - 30 =n= 0;
+Model station / all /;
+Solve station using EMP;
 ";
 
 const PAIRS: &str = "equilibrium\nvi f x g y\n";
@@ -86,10 +104,47 @@ fn worked_rows(rt: HostRuntime) -> Result<(), Fail> {
             "equilibrium\nwork 2\nx = 2\n",
         ),
         (
+            CASES,
+            "Equilibrium Vi F x",
+            0,
+            "equilibrium\nwork 2\nX = 2\n",
+        ),
+    ] {
+        let mut desk = MemoryDesk::new(rt.alloc());
+        desk.put("m", model.as_bytes())?;
+        desk.put("i", info.as_bytes())?;
+        assert_eq!(rt;
+            run(rt.alloc(), words.as_slice(), &mut desk),
+            status,
+            "{model}"
+        );
+        assert!(rt; desk.output() == said.as_bytes(), "{model}");
+    }
+    Ok(())
+}
+
+/// The pairs of files in `examples/`, with the reports that stand there.
+#[test]
+fn examples(rt: HostRuntime) -> Result<(), Fail> {
+    let words = texts(rt.alloc(), &["solve", "m", "i"])?;
+    for (model, info, status, said) in [
+        (
             REGIONS,
-            "Equilibrium Vi n North s South gap Flow",
+            "equilibrium\nvi n North s South gap Flow\n",
             0,
             "equilibrium\nwork 4\nNorth = 172/5\nSouth = 192/5\nFlow = 84/5\n",
+        ),
+        (
+            CAPACITY,
+            "equilibrium\nvi d day e night rent price\n",
+            0,
+            "equilibrium\nwork 4\nday = 15\nnight = 15\nprice = 10\n",
+        ),
+        (
+            CLASH,
+            PAIRS,
+            1,
+            "no equilibrium\nwork 2\nnodes 1\nrow -1 1\n",
         ),
     ] {
         let mut desk = MemoryDesk::new(rt.alloc());
