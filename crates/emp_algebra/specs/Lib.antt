@@ -1,2 +1,3 @@
 pub mod Vector
 pub mod Laws
+pub mod Deciding
