@@ -1,5 +1,5 @@
 -- Texts, their tokens and their outline.
-use Rattle.std.proofs.Common.{◌≡◌, ℕ, List, Result, Ok, Err, sym, subst, subst₂}
+use Rattle.std.proofs.Common.{◌≡◌, ℕ, List, Result, Ok, Err, Option, Some, sym, subst, subst₂, ◌∙◌}
 use Rattle.std.specs.Result.{MatchResult}
 use Rattle.emp_engine.specs.declared.outline.Outline.{Outline}
 use Rattle.emp_engine.specs.declared.token.Token.{Token}
@@ -9,6 +9,8 @@ use Rattle.emp_engine.specs.Form.{Wanted, AllWanted, written_model, written_info
 use Rattle.emp_engine.specs.TokenList.{IsTokenList}
 use Rattle.emp_engine.specs.SaysOutline.{SaysOutline}
 use Rattle.emp_engine.proofs.Lexing.{spells_one}
+use Rattle.emp_engine.specs.Parsing.{outline_of as outline_of_tokens}
+use Rattle.emp_engine.proofs.ParsingWhole.{complete}
 
 says_tokens : (w : List Wanted) (text : List ℕ) (ts : List Token) → IsTokenList text ts → AllWanted w ts → Says w text
 says_tokens w text ts h k = record { short = h.short; no_comment = h.no_comment; tokens = ts; spelled = h.spelled; are_wanted = k }
@@ -30,3 +32,13 @@ module _ (m i : List ℕ) (ts us : List Token) (a : IsTokenList m ts) (b : IsTok
   pub read_gives : (vs ws : List Token) → vs ≡ ts → ws ≡ us → (r : Result Outline ReadFault) → MatchResult r (SaysOutline vs ws) (λ e. e ≡ OtherForm → (o : Outline) → SaysOutline vs ws o → ⊥) → MatchResult r (IsForm m i) (λ e. e ≡ OtherForm → (o : Outline) → IsForm m i o → ⊥)
   read_gives vs ws p q (Ok o) h = form_of o (subst₂ (λ x y. SaysOutline x y o) p q h)
   read_gives vs ws p q (Err e) h = λ is o f. h is o (subst₂ (λ x y. SaysOutline x y o) (sym p) (sym q) (outline_of o f))
+
+-- two outlines of the same texts are one
+pub form_one : (m i : List ℕ) (o p : Outline) → IsForm m i o → IsForm m i p → o ≡ p
+form_one m i o p f g =
+    let ts = list_of (written_model o) m f.model in
+    let us = list_of (written_info o) i f.info in
+    let a : outline_of_tokens ts.0 us.0 ≡ Some o = complete ts.0 us.0 o (outline_of m i ts.0 us.0 ts.1 us.1 o f) in
+    let b : outline_of_tokens ts.0 us.0 ≡ Some p = complete ts.0 us.0 p (outline_of m i ts.0 us.0 ts.1 us.1 p g) in
+    let e : Some o ≡ Some p = sym a ∙ b in
+    cc

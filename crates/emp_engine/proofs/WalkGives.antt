@@ -5,7 +5,7 @@ use Rattle.emp_num.specs.declared.frac.Frac.{Frac}
 use Rattle.emp_num.proofs.Commons.{common_point, stands_for_common}
 use Rattle.emp_ast.specs.declared.model.Variable.{Variable}
 use Rattle.emp_rows.specs.declared.affine.Affine.{Affine}
-use Rattle.emp_rows.specs.Affine.{quotients}
+use Rattle.emp_rows.proofs.Exchange.{length-quotients}
 use Rattle.emp_rows.specs.Walk.{Dictionary, solved, refuted, walk_of, ArePoint}
 use Rattle.emp_rows.proofs.WalkLaws.{walk_vanishes, walk_refutes}
 use Rattle.emp_engine.specs.declared.outline.Outline.{Outline}
@@ -24,10 +24,6 @@ length-terms cells (t ∷ ts) = length-terms (product_cells t.negative cells t.p
 
 length-sum_cells : (count : ℕ) (ts : List Term) → length (sum_cells count ts) ≡ count
 length-sum_cells count ts = length-terms (replicate count (pos 0)) ts ∙ length-replicate count (pos 0)
-
-length-quotients : (zs : List ℤ) (g : ℤ) → length (quotients zs g) ≡ length zs
-length-quotients [] g = refl
-length-quotients (z ∷ zs) g = ap suc (length-quotients zs g)
 
 -- each row has one cell per variable
 pub rows_width : (o : Outline) → All (λ r. length r.cells ≡ length o.variables) (rows_of o)

@@ -9,3 +9,4 @@ pub mod Cutting
 pub mod SaysOutline
 pub mod Parsing
 pub mod Soundness
+pub mod OneOutline

@@ -4,6 +4,7 @@
 pub mod decide;
 pub mod fault;
 pub mod fault_line;
+pub mod laws;
 pub mod lexer;
 pub mod outline;
 pub mod parser;

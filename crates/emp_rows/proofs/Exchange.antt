@@ -106,7 +106,7 @@ dot-quotients g (z ∷ zs) (w ∷ ws) h =
     by_ring (int_div z g ∷ w ∷ dot (quotients zs g) ws ∷ g ∷ []) ((var 0 ⊗ var 1 ⊕ var 2) ⊗ var 3) (var 0 ⊗ var 3 ⊗ var 1 ⊕ var 2 ⊗ var 3) refl
     ∙ ap₂ (λ x y. x *ℤ w +ℤ y) (quot_exact z g (All-head (λ z. unsigned_abs g ∣ unsigned_abs z) z zs h)) (dot-quotients g zs ws (All-tail (λ z. unsigned_abs g ∣ unsigned_abs z) z zs h))
 
-length-quotients : (zs : List ℤ) (g : ℤ) → length (quotients zs g) ≡ length zs
+pub length-quotients : (zs : List ℤ) (g : ℤ) → length (quotients zs g) ≡ length zs
 length-quotients [] g = refl
 length-quotients (z ∷ zs) g = ap suc (length-quotients zs g)
 

@@ -14,7 +14,8 @@ use Rattle.emp_num.specs.Exact.{IsNarrow}
 use Rattle.emp_num.specs.Gcd.{gcd_of, content_from, content_of}
 use Rattle.emp_num.proofs.Gcds.{gcd_below, quot_exact}
 use Rattle.emp_num.proofs.Divisors.{IsGcd-gcd_of}
-use Rattle.emp_rows.specs.Affine.{IsRow, value_times, divisor_of, quotients, primitive_of}
+use Rattle.emp_rows.specs.Affine.{IsRow, value_times, divisor_of, primitive_of}
+use Rattle.emp_rows.specs.Pivot.{quotients}
 use Rattle.emp_rows.proofs.Sound.{quotient_narrow}
 
 pub if_ok_weaker : {X E : Type 0} (r : Result X E) (P Q : X → Type 0) → ((x : X) → P x → Q x) → IfOk r P → IfOk r Q

@@ -4,6 +4,7 @@ use Rattle.emp_algebra.specs.Vector.{dot}
 use Rattle.emp_num.specs.Exact.{IsNarrow}
 use Rattle.emp_num.specs.Gcd.{content_of}
 use Rattle.emp_rows.specs.declared.affine.Affine.{Affine}
+use Rattle.emp_rows.specs.Pivot.{quotients}
 
 -- d times the value at the point with the numbers xs over d
 abbrev pub value_times : Affine → ℤ → List ℤ → ℤ
@@ -23,10 +24,6 @@ pub record IsRow (base : ℕ) (r : Affine) : Type 0 where
 abbrev pub divisor_of : ℕ → ℤ
 divisor_of zero = pos 1
 divisor_of (suc n) = pos (suc n)
-
-abbrev pub quotients : List ℤ → ℤ → List ℤ
-quotients [] g = []
-quotients (z ∷ zs) g = (int_div z g) ∷ quotients zs g
 
 -- the row divided by what all its numbers have in common (by 1 where all are 0)
 abbrev pub primitive_of : List ℤ → ℤ → Affine

@@ -3,3 +3,4 @@ pub mod Pivot
 pub mod Steps
 pub mod Walk
 pub mod Tableau
+pub mod WalkLaws

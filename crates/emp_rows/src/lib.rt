@@ -2,6 +2,7 @@
 #![tactic(auto)]
 
 pub mod affine;
+pub mod laws;
 pub mod line;
 pub mod reduce;
 pub mod walk;
