@@ -77,6 +77,12 @@ fn refuse_words<D: Desk>(desk: &mut D) -> u8
     }
 }
 
+/// Does what the words ask, over a desk, and answers the exit status.
+///
+/// `solve MODEL INFO` loads the two files, decides whether what they stand for has an equilibrium, and says the report.
+/// The statuses and the lines that go with them stand in `docs/FORMATS.md`; the words of the clauses in `specs/Run.antt`
+/// and `docs/DEFINITIONS.md`. After a refusal only its line was said, or a prefix of it where the say failed, and no file
+/// has changed.
 pub fn run<D: Desk>(alloc: Global, words: &[String], desk: &mut D) -> u8
     ensures equilibrium { result ≡ 0 → Told (SaysEquilibrium (map string_bytes words.now)) (D.tells desk.old) (D.tells desk.new) }
     ensures none { result ≡ 1 → Told (ShowsNone (map string_bytes words.now)) (D.tells desk.old) (D.tells desk.new) }
