@@ -29,6 +29,11 @@ pub record IsGivenValue (e : Equation) (w : ℕ) (p : Point) (given : Ratio) : T
   pub positive : pos 0 <ℤ given.bottom
   pub holds : (q : Point) → SameRatio (coordinate q w) given → ((v : ℕ) → (v ≡ w → ⊥) → SameRatio (coordinate q v) (coordinate p v)) → MeetsEquation q e
 
+-- the given value of w, the objective variable of block b: by the equation that defines it, and else its coordinate
+pub record IsGiven (m : Model) (a : Annot) (k : ℕ) (b : Block) (w : ℕ) (p : Point) (given : Ratio) : Type 0 where
+  pub defined : (e : ℕ) (q : Equation) → slice_get m.equations e ≡ Some q → defines_objective m a k b e ≡ true → IsGivenValue q w p given
+  pub otherwise : ((e : ℕ) (q : Equation) → slice_get m.equations e ≡ Some q → defines_objective m a k b e ≡ false) → SameRatio given (coordinate p w)
+
 -- ---- rivals
 -- r agrees with p on every variable that is not the block's own, and is within the bounds of the block's own variables
 pub record AgreesOutside (m : Model) (b : Block) (p r : Point) : Type 0 where
