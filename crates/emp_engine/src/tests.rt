@@ -197,20 +197,26 @@ fn a_file_that_is_not_there(rt: HostRuntime) -> Result<(), Fail> {
     Ok(())
 }
 
+/// Over a desk without files the words give status 30 and its line.
+fn are_refused(alloc: Global, words: &[String]) -> bool {
+    let mut desk = MemoryDesk::new(alloc);
+    run(alloc, words, &mut desk) == 30 && desk.output() == b"error 30: not yet\n".as_slice()
+}
+
 #[test]
 fn words_that_are_not_plain(rt: HostRuntime) -> Result<(), Fail> {
-    for all in [
-        [].as_slice(),
-        ["solve", "m"].as_slice(),
-        ["solve", "m", ""].as_slice(),
-        ["solve", "m", "-i"].as_slice(),
-        ["Solve", "m", "i"].as_slice(),
-        ["solve", "m", "i", "c"].as_slice(),
-    ] {
-        let words = texts(rt.alloc(), all)?;
-        let mut desk = MemoryDesk::new(rt.alloc());
-        assert_eq!(rt; run(rt.alloc(), words.as_slice(), &mut desk), 30);
-        assert!(rt; desk.output() == b"error 30: not yet\n".as_slice());
-    }
+    let alloc = rt.alloc();
+    let none = Vec::new(alloc);
+    assert!(rt; are_refused(alloc, none.as_slice()));
+    let few = texts(alloc, &["solve", "m"])?;
+    assert!(rt; are_refused(alloc, few.as_slice()));
+    let empty = texts(alloc, &["solve", "m", ""])?;
+    assert!(rt; are_refused(alloc, empty.as_slice()));
+    let option = texts(alloc, &["solve", "m", "-i"])?;
+    assert!(rt; are_refused(alloc, option.as_slice()));
+    let capital = texts(alloc, &["Solve", "m", "i"])?;
+    assert!(rt; are_refused(alloc, capital.as_slice()));
+    let many = texts(alloc, &["solve", "m", "i", "c"])?;
+    assert!(rt; are_refused(alloc, many.as_slice()));
     Ok(())
 }
