@@ -5,3 +5,5 @@ pub mod Ratio
 pub mod Point
 pub mod Whole
 pub mod Orders
+pub mod FracText
+pub mod Numeral
