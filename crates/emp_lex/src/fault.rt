@@ -16,6 +16,8 @@ pub enum LexFault {
     OpenBlock(Place),
     /// A dollar line that is not among those that are read.
     Dollar(Place),
+    /// A numeral with a value that is too wide.
+    Number(Place),
     NoMemory,
 }
 

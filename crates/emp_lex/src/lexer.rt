@@ -1,11 +1,12 @@
 //! The tokens of a text.
 ghost use Rattle.std.specs.Prelude.{◌≡◌, ◌+◌, ◌<◌, ◌≤◌, length, MatchResult};
-ghost use Rattle.emp_lex.specs.Tokens.{past_byte, past, fault_at, IsTokenList, IsFirstFault, Refuses};
+ghost use Rattle.emp_lex.specs.Tokens.{past_byte, past, fault_at, Tells, IsTooWide, IsTokenList, Refuses};
 
 use crate::fault::LexFault;
 use crate::piece::{Defect, Step, next_step};
-use crate::token::Token;
+use crate::token::{Token, TokenKind};
 use emp_ast::tree::Place;
+use emp_num::numeral::{NumeralFault, read_numeral};
 use std::alloc::Global;
 
 /// The place behind a byte.
@@ -53,6 +54,21 @@ fn fault_at(defect: Defect, place: Place) -> LexFault
     }
 }
 
+/// Whether the bytes are a numeral with a value that is too wide.
+#[tactic(auto, using(crate::proofs::Wides::tells))]
+fn is_too_wide(kind: TokenKind, bytes: &[u8]) -> bool
+    ensures { Tells result (IsTooWide kind bytes.now) }
+{
+    if kind != TokenKind::Numeral {
+        return false;
+    }
+    match read_numeral(bytes) {
+        Err(NumeralFault::Wide) => true,
+        Err(NumeralFault::Form) => false,
+        Ok(_) => false,
+    }
+}
+
 /// The tokens of the text, or the first fault in it, as `specs/Tokens.antt` defines both.
 pub fn tokens(alloc: Global, text: &[u8]) -> Result<Vec<Token>, LexFault>
     requires { length text.now < 4294967295 }
@@ -65,6 +81,9 @@ pub fn tokens(alloc: Global, text: &[u8]) -> Result<Vec<Token>, LexFault>
         let size = match next_step(alloc, place.column == 1, &text[at..])? {
             Step::Skip(size) => size,
             Step::Take(kind, size) => {
+                if is_too_wide(kind, &text[at..at + size]) {
+                    return Err(LexFault::Number(place));
+                }
                 found.push(Token {
                     kind,
                     from: at as u32,
