@@ -1,5 +1,5 @@
 // Numbers that are formed, and tested at once.
-ghost use Rattle.std.specs.Prelude.{◌≡◌, ◌≤◌, ◌<ℤ◌, ◌+ℤ◌, ◌*ℤ◌, MatchResult, unsigned_abs, pos};
+ghost use Rattle.std.specs.Prelude.{◌≡◌, ◌≤◌, ◌<ℤ◌, ◌+ℤ◌, ◌-ℤ◌, ◌*ℤ◌, MatchResult, unsigned_abs, pos};
 ghost use Prim.Native.Nat.{◌∣◌};
 ghost use Rattle.std.specs.Int.{IsGcd};
 ghost use Rattle.emp_num.specs.Exact.{IsNarrow, IsWide};
@@ -33,6 +33,15 @@ pub fn sum(a: i128, b: i128) -> Result<i128, Wide>
     ensures { MatchResult result (λ p. (p ≡ a +ℤ b) × IsNarrow (a +ℤ b)) (λ _. IsWide (a +ℤ b)) }
 {
     match a.checked_add(b) {
+        Some(p) => narrow(p),
+        None => Err(Wide),
+    }
+}
+
+pub fn difference(a: i128, b: i128) -> Result<i128, Wide>
+    ensures { MatchResult result (λ p. (p ≡ a -ℤ b) × IsNarrow (a -ℤ b)) (λ _. IsWide (a -ℤ b)) }
+{
+    match a.checked_sub(b) {
         Some(p) => narrow(p),
         None => Err(Wide),
     }

@@ -1,8 +1,8 @@
 // Fractions in lowest terms.
-ghost use Rattle.std.specs.Prelude.{◌≡◌, ◌<ℤ◌, pos};
+ghost use Rattle.std.specs.Prelude.{◌≡◌, ◌<ℤ◌, pos, neg_ℤ};
 ghost use Rattle.emp_num.specs.Exact.{IsNarrow, IsWide, IsCoprime};
 
-use crate::exact::{Wide, exact_quotient, gcd, narrow, product, sum};
+use crate::exact::{Wide, difference, exact_quotient, gcd, narrow, product, sum};
 
 #[derive(Clone, Copy, Debug, PartialEq, Eq)]
 pub struct Frac {
@@ -21,13 +21,19 @@ pub enum DivFault {
 }
 
 impl Frac {
-    ghost use Rattle.std.specs.Prelude.{◌+ℤ◌, ◌*ℤ◌, ◌⊎◌, ◌↔◌, MatchResult, IsTrue, IsErr, IsErrOf, IfOk};
-    ghost use Rattle.emp_num.specs.FracSpec.{IsQuotient, NewGives, AddsNarrow, AddsWide};
+    ghost use Rattle.std.specs.Prelude.{◌+ℤ◌, ◌-ℤ◌, ◌*ℤ◌, MatchResult};
+    ghost use Rattle.emp_num.specs.FracSpec.{IsQuotient, NewGives, DivGives, AddsNarrow, AddsWide, SubtractsNarrow, SubtractsWide, MultipliesNarrow, MultipliesWide};
 
     pub fn num(&self) -> i128
         ensures { result ≡ self.now.num }
     {
         self.num
+    }
+
+    pub fn den(&self) -> i128
+        ensures { result ≡ self.now.den }
+    {
+        self.den
     }
 
     /// The fraction of two narrow numbers, in lowest terms.
@@ -74,9 +80,56 @@ impl Frac {
         Ok(Frac::reduced(top, bottom))
     }
 
-    pub fn is_same(a: Frac, b: Frac) -> bool
-        ensures { IsTrue result ↔ (a ≡ b) }
+    #[tactic(auto, using(crate::proofs::Gcds::reads))]
+    pub fn sub(a: Frac, b: Frac) -> Result<Frac, Wide>
+        ensures { MatchResult result (λ r. SubtractsNarrow a b × IsQuotient r (a.num *ℤ b.den -ℤ b.num *ℤ a.den) (a.den *ℤ b.den)) (λ _. SubtractsWide a b) }
     {
-        a == b
+        let left = product(a.num, b.den)?;
+        let right = product(b.num, a.den)?;
+        let top = difference(left, right)?;
+        let shared = product(a.den, b.den)?;
+        Ok(Frac::reduced(top, shared))
     }
+
+    #[tactic(auto, using(crate::proofs::Gcds::reads))]
+    pub fn mul(a: Frac, b: Frac) -> Result<Frac, Wide>
+        ensures { MatchResult result (λ r. MultipliesNarrow a b × IsQuotient r (a.num *ℤ b.num) (a.den *ℤ b.den)) (λ _. MultipliesWide a b) }
+    {
+        let num = product(a.num, b.num)?;
+        let den = product(a.den, b.den)?;
+        Ok(Frac::reduced(num, den))
+    }
+
+    #[tactic(auto, using(crate::proofs::Signs::dividing))]
+    pub fn div(a: Frac, b: Frac) -> Result<Frac, DivFault>
+        ensures { DivGives a b result }
+    {
+        if b.num == 0 {
+            return Err(DivFault::Zero);
+        }
+        let Ok(top) = product(a.num, b.den) else {
+            return Err(DivFault::Wide);
+        };
+        let Ok(bottom) = product(a.den, b.num) else {
+            return Err(DivFault::Wide);
+        };
+        Frac::new(top, bottom)
+    }
+
+    #[tactic(auto, using(crate::proofs::Signs::negating))]
+    pub fn neg(a: Frac) -> Frac
+        ensures num { result.num ≡ neg_ℤ a.num }
+        ensures den { result.den ≡ a.den }
+    {
+        Frac {
+            num: negated_num(a),
+            den: a.den,
+        }
+    }
+}
+
+fn negated_num(a: Frac) -> i128
+    ensures { result ≡ neg_ℤ a.num }
+{
+    -a.num
 }

@@ -1,0 +1,4 @@
+pub mod Runs
+pub mod Wides
+pub mod Trims
+pub mod Lexing
