@@ -49,6 +49,7 @@ pub one_times : (n : ℕ) → 1 * 10 ^ n ≡ 10 ^ n
 one_times n = omega arith
 
 pub ruleset scaling = (scaled_more, scaled_over, scaled_none)
+
 pub ruleset powers = (one_times, power_above)
 
 -- ---- two runs of digits

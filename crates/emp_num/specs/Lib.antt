@@ -8,3 +8,4 @@ pub mod Orders
 pub mod FracText
 pub mod Numeral
 pub mod FracLaws
+pub mod NumeralText

@@ -140,6 +140,7 @@ mod tests {
     use std::test::Fail;
 
     const MOST: i128 = 85070591730234615865843651857942052863;
+
     const HALF: i128 = 9223372036854775808;
 
     #[test]

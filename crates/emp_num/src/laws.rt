@@ -1,5 +1,6 @@
-// The laws of fractions, stated for the layers above.
+// The laws of fractions and numerals, stated for the layers above.
 ghost use Rattle.emp_num.specs.FracLaws.{OrderIsTotal, EqualAreSame, SignsOfQuotients, SignsOfResults};
+ghost use Rattle.emp_num.specs.NumeralText.{NumeralsAreTexts};
 
 /// The order is total, and a comparison has one answer.
 pub fn order_is_total()
@@ -19,4 +20,9 @@ pub fn signs_of_quotients()
 /// Sums and products of fractions that are not below 0 are not below 0.
 pub fn signs_of_results()
     ensures { SignsOfResults }
+{}
+
+/// A text has a numeral's form exactly where it is put together from a numeral's parts, which are those that are read.
+pub fn numerals_are_texts()
+    ensures { NumeralsAreTexts }
 {}

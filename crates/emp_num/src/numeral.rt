@@ -322,6 +322,7 @@ mod tests {
     use std::test::Fail;
 
     const MOST: i128 = 85070591730234615865843651857942052863;
+
     const LARGE: i128 = 10000000000000000000000000000000000000;
 
     #[test]
@@ -370,8 +371,14 @@ mod tests {
             ("1e-38", NumeralFault::Wide),
             ("100e-38", NumeralFault::Wide),
             ("1e400", NumeralFault::Wide),
-            ("1e-99999999999999999999999999999999999999999999", NumeralFault::Wide),
-            ("1e99999999999999999999999999999999999999999999", NumeralFault::Wide),
+            (
+                "1e-99999999999999999999999999999999999999999999",
+                NumeralFault::Wide,
+            ),
+            (
+                "1e99999999999999999999999999999999999999999999",
+                NumeralFault::Wide,
+            ),
             ("85070591730234615865843651857942052864", NumeralFault::Wide),
         ] {
             assert!(rt; read_numeral(text.as_bytes()) == Err(fault), "{text}");
