@@ -1,9 +1,8 @@
 -- The order and the signs of fractions.
 use Rattle.std.proofs.Common.{◌≡◌, ◌⊎◌, inl, inr, ℤ, pos, ◌+ℤ◌, ◌*ℤ◌, ◌≤ℤ◌, ◌<ℤ◌, [], ◌∷◌, arith, refl, sym, ap, ◌∙◌}
-use Rattle.std.proofs.lemmas.Int.{ints}
 use Rattle.std.specs.declared.cmp.Ordering.{Ordering}
 use Rattle.std.specs.declared.cmp.Ordering.TheVariants.{Less, Equal, Greater}
-use lib.IntN.{zero-*ℤ, *ℤ_comm}
+use lib.IntN.{zero-*ℤ}
 use Rattle.emp_algebra.proofs.Laws.{mul_pos, mul_nonneg}
 use Rattle.emp_algebra.proofs.Order.{linear, le_or_lt, mul_le_right, mul_lt_right, le_cancel_right, cancel_right}
 use Rattle.emp_algebra.proofs.Ring.{var, ◌⊗◌, by_ring}

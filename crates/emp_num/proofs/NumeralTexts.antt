@@ -1,9 +1,9 @@
 -- A text has a numeral's form exactly where it is put together from a numeral's parts.
-use Rattle.std.proofs.Common.{◌≡◌, ◌≢◌, ◌⊎◌, inl, inr, ℕ, zero, suc, ◌+◌, ◌<◌, ◌≤◌, Bool, true, false, cond, not, ◌&&◌, ◌||◌, nat_eq, List, [], ◌∷◌, ◌++◌, length, drop, get_or, arith, refl, sym, ap, ◌∙◌, subst, append_assoc, eqb-true, ne_eqb, eq-eqb}
-use Rattle.std.proofs.lemmas.Bool.{and_parts, and_from, and_left, and_right, or_cases, or_left, or_right, or_from, eqb-false}
+use Rattle.std.proofs.Common.{◌≡◌, ◌≢◌, ◌⊎◌, inl, inr, ℕ, ◌+◌, ◌<◌, Bool, true, false, cond, not, ◌&&◌, ◌||◌, nat_eq, List, [], ◌∷◌, ◌++◌, length, drop, arith, refl, sym, ap, ◌∙◌, subst, eqb-true, ne_eqb}
+use Rattle.std.proofs.lemmas.Bool.{and_parts, and_from, and_left, and_right, or_cases, or_right, or_from}
 use Rattle.std.proofs.lemmas.Bool.Decides.{eqb_tells}
 use Rattle.std.proofs.lemmas.List.{nil_from_length, append-nil}
-use Rattle.emp_num.specs.Numeral.{digit, digits_of, after_digits, is_empty, first, fraction_digits, after_fraction, is_mark, is_sign, unsigned, exponent_digits, exponent_negative, only_digits, exponent_form, whole_of, fraction_of, tail_of, numeral_form}
+use Rattle.emp_num.specs.Numeral.{digit, digits_of, after_digits, is_empty, first, fraction_digits, after_fraction, is_mark, unsigned, exponent_digits, exponent_negative, only_digits, exponent_form, whole_of, fraction_of, tail_of, numeral_form}
 use Rattle.emp_num.specs.NumeralText.{AllDigits, PointText, SignText, ExponentText, IsNumeral, AreParts}
 use Rattle.emp_num.specs.NumeralText.PointText.{no_point, point}
 use Rattle.emp_num.specs.NumeralText.SignText.{no_sign, plus, minus}

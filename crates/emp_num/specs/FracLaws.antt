@@ -1,7 +1,6 @@
 -- The laws of fractions that the layers above cite, as statements.
-use Rattle.std.specs.Prelude.{◌≡◌, ◌⊎◌, ℤ, pos, ◌+ℤ◌, ◌-ℤ◌, ◌*ℤ◌, ◌≤ℤ◌, ◌<ℤ◌}
+use Rattle.std.specs.Prelude.{◌≡◌, ◌⊎◌, ℤ, pos, ◌+ℤ◌, ◌*ℤ◌, ◌≤ℤ◌, ◌<ℤ◌}
 use Rattle.std.specs.declared.cmp.Ordering.{Ordering}
-use Rattle.std.specs.declared.cmp.Ordering.TheVariants.{Less, Equal, Greater}
 use Rattle.emp_num.specs.FracSpec.{IsQuotient}
 use Rattle.emp_num.specs.Orders.{IsOrder}
 use Rattle.emp_num.specs.declared.frac.Frac.{Frac}

@@ -1,5 +1,5 @@
 -- What a numeral is, as a text put together from its parts.
-use Rattle.std.specs.Prelude.{◌≡◌, ◌⊎◌, ℕ, ◌+◌, ◌<◌, Bool, true, false, List, [], ◌∷◌, ◌++◌, length}
+use Rattle.std.specs.Prelude.{◌≡◌, ℕ, ◌+◌, ◌<◌, Bool, true, false, List, [], ◌∷◌, ◌++◌, length}
 use Rattle.emp_num.specs.Numeral.{digit, is_mark, whole_of, fraction_of, tail_of, exponent_negative, exponent_digits, numeral_form}
 
 abbrev pub AllDigits : List ℕ → Type 0
