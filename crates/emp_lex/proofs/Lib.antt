@@ -1,4 +1,6 @@
 pub mod Runs
 pub mod Wides
+pub mod NumeralForms
+pub mod TokenForms
 pub mod Trims
 pub mod Lexing
