@@ -2,5 +2,6 @@ pub mod Runs
 pub mod Wides
 pub mod NumeralForms
 pub mod TokenForms
+pub mod TokenBytes
 pub mod Trims
 pub mod Lexing

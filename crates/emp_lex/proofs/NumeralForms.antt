@@ -78,7 +78,7 @@ only d h l = rw (some_nonempty d l, after_all d h) refl
 seam_at : (q r : List ℕ) (k : ℕ) → get_or (q ++ r) (length q + k) 0 ≡ get_or r k 0
 seam_at q r k = get_or-append-add q r k 0
 
-seam_here : (q r : List ℕ) → get_or (q ++ r) (length q) 0 ≡ get_or r 0 0
+pub seam_here : (q r : List ℕ) → get_or (q ++ r) (length q) 0 ≡ get_or r 0 0
 seam_here q r = ap (λ n. get_or (q ++ r) n 0) (sym (add-zero (length q))) ∙ seam_at q r 0
 
 mark_seam : (q r : List ℕ) → mark_size (q ++ r) (length q) ≡ mark_size r 0

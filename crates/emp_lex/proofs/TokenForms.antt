@@ -96,3 +96,115 @@ pair_formed v (a ∷ b ∷ bs) p (inr m) h k = record { part = a ∷ b ∷ []; r
 single_formed : (text : List ℕ) → 0 < length text → is_single (get_or text 0 0) ≡ true → Formed text Symbol 1
 single_formed [] l h = absurd (omega arith)
 single_formed (a ∷ bs) l h = record { part = a ∷ []; rest = bs; is = refl; size = refl; form = inr (inr (a, refl, h)) }
+
+numeral_formed : (text : List ℕ) → 0 < numeral_size text → Formed text Numeral (numeral_size text)
+numeral_formed text l = let n = numeral_found text l in record { part = n.part; rest = n.rest; is = n.is; size = n.size; form = n.form }
+
+symbol_by : (text : List ℕ) (t u : Bool) → (t ≡ true → Formed text Symbol 2) → (u ≡ true → Formed text Symbol 1) → 0 < cond t 2 (cond u 1 0) → Formed text Symbol (cond t 2 (cond u 1 0))
+symbol_by text true u f g l = f refl
+symbol_by text false true f g l = g refl
+symbol_by text false false f g l = absurd (omega arith)
+
+symbol_formed : (text : List ℕ) → 0 < length text → 0 < symbol_size text → Formed text Symbol (symbol_size text)
+symbol_formed text l s = symbol_by text (has_at text 0 42 && has_at text 1 42) (is_single (get_or text 0 0)) stars (single_formed text l) s
+  where
+    stars : (has_at text 0 42 && has_at text 1 42) ≡ true → Formed text Symbol 2
+    stars h = let p = and_parts (has_at text 0 42) (has_at text 1 42) h in pair_formed 42 text (omega arith) (inl refl) (eqb-true (get_or text 0 0) 42 p.0) (eqb-true (get_or text 1 0) 42 p.1)
+
+-- ---- pieces
+same_take : (text : List ℕ) (j k : TokenKind) (m n : ℕ) → Take j m ≡ Take k n → Formed text j m → Formed text k n
+same_take text j k m n e f =
+    let a : j ≡ k = cc in
+    let b : m ≡ n = cc in
+    subst (λ n. Formed text k n) b (subst (λ k. Formed text k m) a f)
+
+relation_of : (text : List ℕ) → is_relation text ≡ true → Formed text Relation 3
+relation_of text h =
+    let p = and_parts (has_at text 0 61 && is_relation_letter (get_or text 1 0)) (has_at text 2 61) h in
+    let q = and_parts (has_at text 0 61) (is_relation_letter (get_or text 1 0)) p.0 in
+    relation_formed text (eqb-true (get_or text 0 0) 61 q.0) q.1 (eqb-true (get_or text 2 0) 61 p.1)
+
+plain_formed : (text : List ℕ) (k : TokenKind) (n : ℕ) → 0 < length text → plain_piece text ≡ Take k n → Formed text k n
+plain_formed text k n l e =
+    either P (nat_lt 0 (numeral_size text)) (Take Numeral (numeral_size text)) _ (Take k n) e
+    (λ t f. same_take text Numeral k (numeral_size text) n f (numeral_formed text (above_0 (numeral_size text) t)))
+    (λ _ f.
+      either P (is_relation text) (Take Relation 3) _ (Take k n) f
+      (λ t g. same_take text Relation k 3 n g (relation_of text t))
+      (λ _ g.
+        either P (nat_lt 0 (symbol_size text)) (Take Symbol (symbol_size text)) (Stop BadByte) (Take k n) g
+        (λ t h. same_take text Symbol k (symbol_size text) n h (symbol_formed text l (above_0 (symbol_size text) t)))
+        (λ _ h. cc)))
+  where
+    P : Type 0
+    P = Formed text k n
+
+word_formed : (text : List ℕ) (k : TokenKind) (n : ℕ) → 0 < length text → is_letter (get_or text 0 0) ≡ true → word_piece text ≡ Take k n → Formed text k n
+word_formed text k n l h e =
+    either (Formed text k n) (nat_lt 63 (run_size Word text)) (Stop LongName) (Take Name (run_size Word text)) (Take k n) e
+    (λ _ f. cc)
+    (λ t f. same_take text Name k (run_size Word text) n f (name_formed text l h (under_64 (run_size Word text) t)))
+
+text_formed : (text : List ℕ) (k : TokenKind) (n : ℕ) → 0 < length text → (has_at text 0 39 || has_at text 0 34) ≡ true → quote_piece (get_or text 0 0) text ≡ Take k n → Formed text k n
+text_formed [] k n l h e = absurd (omega arith)
+text_formed (q ∷ bs) k n l h e = go (has_at (q ∷ bs) (1 + run_size (Quoted q) bs) q) refl e
+  where
+    mark : (nat_eq q 39 ≡ true) ⊎ (nat_eq q 34 ≡ true) → (q ≡ 39) ⊎ (q ≡ 34)
+    mark (inl t) = inl (eqb-true q 39 t)
+    mark (inr t) = inr (eqb-true q 34 t)
+
+    found : ℕ → Step
+    found size = cond (nat_eq size 0) (Stop BadByte) (Take Text size)
+
+    go : (t : Bool) → has_at (q ∷ bs) (1 + run_size (Quoted q) bs) q ≡ t → cond (nat_eq (cond t (1 + run_size (Quoted q) bs + 1) 0) 0) (Stop BadByte) (Take Text (cond t (1 + run_size (Quoted q) bs + 1) 0)) ≡ Take k n → Formed (q ∷ bs) k n
+    go true t f =
+        either (Formed (q ∷ bs) k n) (nat_eq (1 + run_size (Quoted q) bs + 1) 0) (Stop BadByte) (Take Text (1 + run_size (Quoted q) bs + 1)) (Take k n) f
+        (λ _ g. cc)
+        (λ _ g. same_take (q ∷ bs) Text k (1 + run_size (Quoted q) bs + 1) n g (quote_formed q bs (mark (or_cases (nat_eq q 39) (nat_eq q 34) h)) t))
+    go false t f = let g : ◌≡◌ {A = Step} (Stop BadByte) (Take k n) = f in cc
+
+pub piece_formed : (text : List ℕ) (k : TokenKind) (n : ℕ) → 0 < length text → piece text ≡ Take k n → Formed text k n
+piece_formed text k n l e =
+    either P (is_blank (get_or text 0 0)) (Skip 1) _ (Take k n) e
+    (λ _ f. cc)
+    (λ _ f.
+      either P (is_letter (get_or text 0 0)) (word_piece text) _ (Take k n) f
+      (λ t g. word_formed text k n l t g)
+      (λ _ g.
+        either P (has_at text 0 39 || has_at text 0 34) (quote_piece (get_or text 0 0) text) _ (Take k n) g
+        (λ t h. text_formed text k n l t h)
+        (λ _ h.
+          either P (has_at text 0 46 && has_at text 1 46) (Take Symbol 2) (plain_piece text) (Take k n) h
+          (λ t i. same_take text Symbol k 2 n i (dots t))
+          (λ _ i. plain_formed text k n l i))))
+  where
+    P : Type 0
+    P = Formed text k n
+
+    dots : (has_at text 0 46 && has_at text 1 46) ≡ true → Formed text Symbol 2
+    dots h = let p = and_parts (has_at text 0 46) (has_at text 1 46) h in pair_formed 46 text (omega arith) (inr refl) (eqb-true (get_or text 0 0) 46 p.0) (eqb-true (get_or text 1 0) 46 p.1)
+
+-- ---- steps
+no_token : (text : List ℕ) (d : Directive) (k : TokenKind) (n : ℕ) → directive_step text d ≡ Take k n → ⊥
+no_token text Nothing k n e = cc
+no_token text Begins k n e = go (block_size true text) e
+  where
+    go : (o : Option ℕ) → block_step o ≡ Take k n → ⊥
+    go None f = cc
+    go (Some size) f = cc
+no_token text Ends k n e = cc
+no_token text Unknown k n e = cc
+
+pub step_formed : (begins : Bool) (text : List ℕ) (k : TokenKind) (n : ℕ) → 0 < length text → step begins text ≡ Take k n → Formed text k n
+step_formed begins text k n l e =
+    either (Formed text k n) (begins && begins_with 42 text) (Skip (run_size Line text)) _ (Take k n) e
+    (λ _ f. cc)
+    (λ _ f.
+      either (Formed text k n) (begins && begins_with 36 text) (dollar_step text) (piece text) (Take k n) f
+      (λ _ g. absurd (no_token text (directive text) k n g))
+      (λ _ g. piece_formed text k n l g))
+
+pub formed_bytes : (text : List ℕ) (k : TokenKind) (n : ℕ) → Formed text k n → HasForm k (take n text)
+formed_bytes text k n f =
+    let e : take n text ≡ f.part = ap (λ m. take m text) f.size ∙ ap (take (length f.part)) f.is ∙ take-append_seam f.part f.rest in
+    subst (λ y. HasForm k y) (sym e) f.form
