@@ -51,7 +51,7 @@ left_some text at h = omega (arith, length-drop at text)
 left_step : (text : List ℕ) (at : ℕ) (p : Place) (s : Step) → s ≡ step (is_line_start p) (slice_range text at (length text)) → step (is_line_start p) (drop at text) ≡ s
 left_step text at p s e = ap (step (is_line_start p)) (sym (to_end text at)) ∙ sym e
 
-slice_is : (text : List ℕ) (at size : ℕ) → slice_range text at (at + size) ≡ take size (drop at text)
+pub slice_is : (text : List ℕ) (at size : ℕ) → slice_range text at (at + size) ≡ take size (drop at text)
 slice_is text at size = let e : at + size - at ≡ size = omega arith in ap (λ n. take n (drop at text)) e
 
 pub past_skip : (text : List ℕ) (at : ℕ) (p : Place) (size : ℕ) (done : List Token) → at < length text → Skip size ≡ step (is_line_start p) (slice_range text at (length text)) → Progress text at p done → Progress text (at + size) (past p (slice_range text at (at + size))) done

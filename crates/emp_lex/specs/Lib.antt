@@ -1,4 +1,5 @@
 pub mod Bytes
 pub mod DollarLines
+pub mod Forms
 pub mod Pieces
 pub mod Tokens
