@@ -3,7 +3,8 @@ use Rattle.std.proofs.Common.{◌≡◌, ℕ, zero, suc, ◌+◌, ◌<◌, ◌�
 use Rattle.std.proofs.lemmas.List.{append-nil}
 use Rattle.std.specs.Fmt.{signed_decimal}
 use Rattle.emp_num.specs.declared.frac.Frac.{Frac}
-use Rattle.emp_engine.specs.Report.{fraction_text, point_lines, factors_text}
+use Rattle.emp_num.specs.FracText.{fraction_text}
+use Rattle.emp_engine.specs.Report.{point_lines, factors_text}
 
 -- ---- factors
 abbrev factor_text : ℤ → List ℕ

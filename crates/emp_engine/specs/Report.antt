@@ -1,15 +1,8 @@
 -- The bytes of reports and fault lines. Each line ends with LF.
 use Rattle.std.specs.Prelude.{ℕ, zero, suc, ℤ, pos, Bool, true, false, cond, List, [], ◌∷◌, ◌++◌, codes, decimal}
 use Rattle.std.specs.Fmt.{signed_decimal}
+use Rattle.emp_num.specs.FracText.{fraction_text}
 use Rattle.emp_num.specs.declared.frac.Frac.{Frac}
-
-abbrev pub is_one : ℤ → Bool
-is_one (pos (suc zero)) = true
-is_one z = false
-
--- `n` or `n/d`
-abbrev pub fraction_text : Frac → List ℕ
-fraction_text f = cond (is_one f.den) (signed_decimal f.num) (signed_decimal f.num ++ codes "/" ++ signed_decimal f.den)
 
 -- `NAME = F` for each variable
 abbrev pub point_lines : List (List ℕ) → List Frac → List ℕ

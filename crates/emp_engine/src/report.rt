@@ -1,10 +1,12 @@
 //! Reports: a line of what was found, a line of its work, and what was found.
 ghost use Rattle.std.specs.Prelude.{◌≡◌, ◌++◌, codes, decimal, IfOk, OnOk};
 ghost use Rattle.std.specs.Fmt.{signed_decimal};
-ghost use Rattle.emp_engine.specs.Report.{equilibrium_report, factors_text, fraction_text, missing_report, point_lines};
+ghost use Rattle.emp_engine.specs.Report.{equilibrium_report, factors_text, missing_report, point_lines};
+ghost use Rattle.emp_num.specs.FracText.{fraction_text};
 
 use emp_list::name::Name;
 use emp_num::frac::Frac;
+use emp_num::print::print_frac;
 use itoa::Buffer;
 use std::alloc::{AllocError, Global};
 
@@ -68,12 +70,9 @@ fn append_number(out: &mut Vec<u8>, number: i128) -> Result<(), AllocError>
 fn append_fraction(out: &mut Vec<u8>, fraction: Frac) -> Result<(), AllocError>
     ensures { OnOk result (out.new.items ≡ out.old.items ++ fraction_text fraction) }
 {
-    append_number(out, fraction.num)?;
-    if fraction.den == 1 {
-        return Ok(());
-    }
-    append(out, b"/")?;
-    append_number(out, fraction.den)
+    let mut text = [0; 96];
+    let size = print_frac(fraction, &mut text);
+    append(out, &text[..size])
 }
 
 fn append_value(out: &mut Vec<u8>, name: &Name, value: Frac) -> Result<(), AllocError>
