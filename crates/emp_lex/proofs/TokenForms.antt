@@ -129,12 +129,12 @@ plain_formed text k n l e =
     either P (nat_lt 0 (numeral_size text)) (Take Numeral (numeral_size text)) _ (Take k n) e
     (λ t f. same_take text Numeral k (numeral_size text) n f (numeral_formed text (above_0 (numeral_size text) t)))
     (λ _ f.
-      either P (is_relation text) (Take Relation 3) _ (Take k n) f
-      (λ t g. same_take text Relation k 3 n g (relation_of text t))
-      (λ _ g.
-        either P (nat_lt 0 (symbol_size text)) (Take Symbol (symbol_size text)) (Stop BadByte) (Take k n) g
-        (λ t h. same_take text Symbol k (symbol_size text) n h (symbol_formed text l (above_0 (symbol_size text) t)))
-        (λ _ h. cc)))
+    either P (is_relation text) (Take Relation 3) _ (Take k n) f
+    (λ t g. same_take text Relation k 3 n g (relation_of text t))
+    (λ _ g.
+    either P (nat_lt 0 (symbol_size text)) (Take Symbol (symbol_size text)) (Stop BadByte) (Take k n) g
+    (λ t h. same_take text Symbol k (symbol_size text) n h (symbol_formed text l (above_0 (symbol_size text) t)))
+    (λ _ h. cc)))
   where
     P : Type 0
     P = Formed text k n
@@ -168,15 +168,15 @@ piece_formed text k n l e =
     either P (is_blank (get_or text 0 0)) (Skip 1) _ (Take k n) e
     (λ _ f. cc)
     (λ _ f.
-      either P (is_letter (get_or text 0 0)) (word_piece text) _ (Take k n) f
-      (λ t g. word_formed text k n l t g)
-      (λ _ g.
-        either P (has_at text 0 39 || has_at text 0 34) (quote_piece (get_or text 0 0) text) _ (Take k n) g
-        (λ t h. text_formed text k n l t h)
-        (λ _ h.
-          either P (has_at text 0 46 && has_at text 1 46) (Take Symbol 2) (plain_piece text) (Take k n) h
-          (λ t i. same_take text Symbol k 2 n i (dots t))
-          (λ _ i. plain_formed text k n l i))))
+    either P (is_letter (get_or text 0 0)) (word_piece text) _ (Take k n) f
+    (λ t g. word_formed text k n l t g)
+    (λ _ g.
+    either P (has_at text 0 39 || has_at text 0 34) (quote_piece (get_or text 0 0) text) _ (Take k n) g
+    (λ t h. text_formed text k n l t h)
+    (λ _ h.
+    either P (has_at text 0 46 && has_at text 1 46) (Take Symbol 2) (plain_piece text) (Take k n) h
+    (λ t i. same_take text Symbol k 2 n i (dots t))
+    (λ _ i. plain_formed text k n l i))))
   where
     P : Type 0
     P = Formed text k n
@@ -200,9 +200,9 @@ step_formed begins text k n l e =
     either (Formed text k n) (begins && begins_with 42 text) (Skip (run_size Line text)) _ (Take k n) e
     (λ _ f. cc)
     (λ _ f.
-      either (Formed text k n) (begins && begins_with 36 text) (dollar_step text) (piece text) (Take k n) f
-      (λ _ g. absurd (no_token text (directive text) k n g))
-      (λ _ g. piece_formed text k n l g))
+    either (Formed text k n) (begins && begins_with 36 text) (dollar_step text) (piece text) (Take k n) f
+    (λ _ g. absurd (no_token text (directive text) k n g))
+    (λ _ g. piece_formed text k n l g))
 
 pub formed_bytes : (text : List ℕ) (k : TokenKind) (n : ℕ) → Formed text k n → HasForm k (take n text)
 formed_bytes text k n f =
