@@ -1,13 +1,13 @@
 -- The digits that a text begins with, and digits without their last zeros.
-use Rattle.std.proofs.Common.{◌≡◌, ◌≢◌, ℕ, zero, suc, ◌+◌, ◌-◌, ◌<◌, ◌≤◌, Bool, true, false, cond, nat_eq, List, [], ◌∷◌, ◌++◌, length, take, drop, get_or, arith, refl, sym, ap, ◌∙◌, append_assoc}
-use Rattle.std.proofs.lemmas.List.{drop_more, drop_all, take_more, append-nil, take_all}
+use Rattle.std.proofs.Common.{◌≡◌, ℕ, ◌+◌, ◌-◌, ◌<◌, ◌≤◌, Bool, true, false, cond, nat_eq, List, [], ◌∷◌, ◌++◌, length, take, drop, get_or, arith, refl, sym, ap, ◌∙◌, append_assoc}
+use Rattle.std.proofs.lemmas.List.{drop_more, drop_all, take_more, append-nil}
 use Rattle.emp_num.specs.Numeral.{digit, digits_of, after_digits, before_trimmed, trimmed}
 
 -- ---- one more digit
-digits_on : (b : ℕ) (bs : List ℕ) (d : Bool) → digit b ≡ d → digits_of (b ∷ bs) ≡ cond d (b ∷ digits_of bs) []
+pub digits_on : (b : ℕ) (bs : List ℕ) (d : Bool) → digit b ≡ d → digits_of (b ∷ bs) ≡ cond d (b ∷ digits_of bs) []
 digits_on b bs d e = ap (λ x. cond x (b ∷ digits_of bs) []) e
 
-after_on : (b : ℕ) (bs : List ℕ) (d : Bool) → digit b ≡ d → after_digits (b ∷ bs) ≡ cond d (after_digits bs) (b ∷ bs)
+pub after_on : (b : ℕ) (bs : List ℕ) (d : Bool) → digit b ≡ d → after_digits (b ∷ bs) ≡ cond d (after_digits bs) (b ∷ bs)
 after_on b bs d e = ap (λ x. cond x (after_digits bs) (b ∷ bs)) e
 
 pub digits_step : (t : List ℕ) (i : ℕ) → digits_of t ≡ take i t ++ digits_of (drop i t) → i < length t → digit (get_or t i 0) ≡ true → digits_of t ≡ take (i + 1) t ++ digits_of (drop (i + 1) t)

@@ -1,5 +1,5 @@
 -- Numbers that digits write, and powers of ten.
-use Rattle.std.proofs.Common.{◌≡◌, ◌≢◌, ◌⊎◌, inl, inr, ℕ, zero, suc, ◌+◌, ◌-◌, ◌*◌, ◌^◌, ◌<◌, ◌≤◌, ℤ, pos, negsuc, Bool, true, false, List, [], ◌∷◌, ◌++◌, length, take, drop, get_or, arith, refl, sym, ap, ◌∙◌, subst}
+use Rattle.std.proofs.Common.{◌≡◌, ℕ, zero, suc, ◌+◌, ◌-◌, ◌*◌, ◌^◌, ◌<◌, ◌≤◌, List, [], ◌∷◌, length, drop, get_or, arith, refl, ap}
 use Rattle.std.proofs.lemmas.List.{drop_more, drop_all}
 use Rattle.std.proofs.Math.Nat.{pow-suc, one-le-pow}
 use Rattle.emp_num.specs.Numeral.{value_from}
@@ -49,6 +49,7 @@ pub one_times : (n : ℕ) → 1 * 10 ^ n ≡ 10 ^ n
 one_times n = omega arith
 
 pub ruleset scaling = (scaled_more, scaled_over, scaled_none)
+
 pub ruleset powers = (one_times, power_above)
 
 -- ---- two runs of digits

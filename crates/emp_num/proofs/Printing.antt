@@ -1,8 +1,6 @@
 -- Texts written one after another.
 use Rattle.std.proofs.Common.{◌≡◌, ◌≢◌, ℕ, ◌+◌, ◌<◌, ◌≤◌, ℤ, pos, negsuc, zero, suc, Bool, true, false, List, [], ◌∷◌, ◌++◌, length, take, drop, get_or, slice_set, set, arith, refl, sym, ap, ◌∙◌, append_assoc}
-use Rattle.emp_num.specs.FracText.{is_one, fraction_text}
-use Rattle.emp_num.specs.declared.frac.Frac.{Frac}
-
+use Rattle.emp_num.specs.FracText.{is_one}
 use Rattle.std.proofs.lemmas.List.{take_more, take_more_set}
 
 pub put_more : (out text before : List ℕ) (at i : ℕ) → take (at + i) out ≡ before ++ take i text → i < length text → at + i < length out → take (at + (i + 1)) (set out (at + i) (get_or text i 0)) ≡ before ++ take (i + 1) text
@@ -23,4 +21,5 @@ is_one_false (pos (suc (suc n))) h = refl
 is_one_false (negsuc n) h = refl
 
 pub ruleset putting = (put_more, append_assoc)
+
 pub ruleset printing = (is_one_true, is_one_false, append_assoc)

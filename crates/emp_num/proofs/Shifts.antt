@@ -1,14 +1,13 @@
 -- Numbers times powers of ten by their signed exponents.
-use Rattle.std.proofs.Common.{◌≡◌, ◌≢◌, ◌⊎◌, inl, inr, ℕ, zero, suc, ◌+◌, ◌-◌, ◌*◌, ◌^◌, ◌<◌, ◌≤◌, ℤ, pos, negsuc, neg_ℤ, ◌-ℤ◌, ◌*ℤ◌, unsigned_abs, Bool, true, false, List, length, Result, Ok, Err, arith, refl, sym, ap, ◌∙◌, subst}
+use Rattle.std.proofs.Common.{◌≡◌, inl, inr, ℕ, zero, suc, ◌+◌, ◌-◌, ◌*◌, ◌^◌, ◌<◌, ◌≤◌, ℤ, pos, negsuc, neg_ℤ, ◌-ℤ◌, ◌*ℤ◌, unsigned_abs, Bool, true, false, Result, Ok, Err, arith, sym, ap, ◌∙◌, subst}
 use Rattle.std.proofs.lemmas.Int.{ints}
 use lib.IntN.{zero-*ℤ, *ℤ-one}
 use native.Mathlib.Nat.{pow-le-pow_right}
 use Rattle.emp_num.specs.FracSpec.{IsQuotient}
-use Rattle.emp_num.specs.Numeral.{signed, scale, mantissa, trimmed, value_from, top_of, bottom_of, FormedSmall, FormedLarge, DecimalGives, FormGives}
+use Rattle.emp_num.specs.Numeral.{signed, FormedLarge, DecimalGives, FormGives}
 use Rattle.emp_num.specs.declared.frac.Frac.{Frac}
 use Rattle.emp_num.specs.declared.numeral.NumeralFault.{NumeralFault}
 use Rattle.emp_num.specs.declared.numeral.NumeralFault.TheVariants.{Form, Wide}
-use Rattle.emp_num.proofs.Numerals.{scaled_large, scaled_none}
 
 -- ---- one direction
 pub down_ok : (m n : ℕ) (r : Frac) → m < 2 ^ 126 → IsQuotient r (pos m) (pos (10 ^ n)) → 10 ^ n < 2 ^ 126 → DecimalGives m (neg_ℤ (pos n)) (Ok r)

@@ -4,8 +4,8 @@ use Rattle.std.proofs.lemmas.Int.{ints}
 use lib.IntN.{zero-*ℤ, *ℤ_comm}
 use Prim.Native.Nat.{◌∣◌}
 use Rattle.emp_algebra.proofs.Order.{cancel_right}
-use Rattle.emp_num.specs.Exact.{IsNarrow, IsWide, IsCoprime}
-use Rattle.emp_num.specs.FracSpec.{IsQuotient, NewGives, DivGives}
+use Rattle.emp_num.specs.Exact.{IsCoprime}
+use Rattle.emp_num.specs.FracSpec.{NewGives, DivGives}
 use Rattle.emp_num.specs.declared.frac.Frac.{Frac}
 use Rattle.emp_num.specs.declared.frac.DivFault.{DivFault}
 use Rattle.emp_num.specs.declared.frac.DivFault.TheVariants.{Zero, Wide}

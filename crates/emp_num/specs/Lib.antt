@@ -7,3 +7,5 @@ pub mod Whole
 pub mod Orders
 pub mod FracText
 pub mod Numeral
+pub mod FracLaws
+pub mod NumeralText

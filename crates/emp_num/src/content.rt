@@ -15,3 +15,15 @@ pub fn content_with(start: u128, row: &[i128]) -> u128
     }
     total
 }
+
+#[cfg(test)]
+mod tests {
+    use super::*;
+
+    #[test]
+    fn contents(rt: HostRuntime) {
+        assert_eq!(rt; content_with(0, &[6, -9, 0]), 3);
+        assert_eq!(rt; content_with(4, &[]), 4);
+        assert_eq!(rt; content_with(0, &[0]), 0);
+    }
+}

@@ -81,3 +81,34 @@ pub fn exact_quotient(a: i128, divisor: i128) -> i128
 {
     a / divisor
 }
+
+#[cfg(test)]
+mod tests {
+    use super::*;
+
+    #[test]
+    fn bounds(rt: HostRuntime) {
+        for (a, b, added, multiplied) in [
+            (LIMIT - 1, 0, Ok(LIMIT - 1), Ok(0)),
+            (LIMIT - 1, 1, Err(Wide), Ok(LIMIT - 1)),
+            (1 - LIMIT, -1, Err(Wide), Ok(LIMIT - 1)),
+            (i128::MAX, 1, Err(Wide), Err(Wide)),
+            (LIMIT / 2, 2, Ok(LIMIT / 2 + 2), Err(Wide)),
+        ] {
+            assert!(rt; sum(a, b) == added, "{a} {b}");
+            assert!(rt; product(a, b) == multiplied, "{a} {b}");
+        }
+    }
+
+    #[test]
+    fn divisors(rt: HostRuntime) {
+        for (a, b, expected) in [
+            (0, 0, 0),
+            (-12, 18, 6),
+            (0, 1 - LIMIT, LIMIT - 1),
+            (LIMIT - 1, LIMIT - 2, 1),
+        ] {
+            assert_eq!(rt; gcd(a, b), expected);
+        }
+    }
+}

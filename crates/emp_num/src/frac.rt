@@ -133,3 +133,92 @@ fn negated_num(a: Frac) -> i128
 {
     -a.num
 }
+
+#[cfg(test)]
+mod tests {
+    use super::*;
+    use std::test::Fail;
+
+    const MOST: i128 = 85070591730234615865843651857942052863;
+
+    const HALF: i128 = 9223372036854775808;
+
+    #[test]
+    fn fractions(rt: HostRuntime) -> Result<(), Fail> {
+        for (num, den, expected) in [
+            (MOST, 1, Ok((MOST, 1))),
+            (-MOST, MOST, Ok((-1, 1))),
+            (6, -4, Ok((-3, 2))),
+            (0, -5, Ok((0, 1))),
+            (MOST + 1, 1, Err(DivFault::Wide)),
+            (2, MOST + 1, Err(DivFault::Wide)),
+            (-MOST - 1, 2, Err(DivFault::Wide)),
+            (MOST + 1, 0, Err(DivFault::Zero)),
+        ] {
+            let found = Frac::new(num, den).map(|f| (f.num(), f.den()));
+            assert!(rt; found == expected, "{num} {den}");
+        }
+        Ok(())
+    }
+
+    #[test]
+    fn sums(rt: HostRuntime) -> Result<(), Fail> {
+        for (a, b, added, subtracted) in [
+            ((1, 2), (1, 3), Ok((5, 6)), Ok((1, 6))),
+            ((MOST, 1), (0, 1), Ok((MOST, 1)), Ok((MOST, 1))),
+            ((MOST, 1), (-MOST, 1), Ok((0, 1)), Err(Wide)),
+            ((MOST, 1), (1, 1), Err(Wide), Ok((MOST - 1, 1))),
+            ((MOST, 1), (1, 2), Err(Wide), Err(Wide)),
+            ((1, MOST), (-1, MOST), Err(Wide), Err(Wide)),
+            ((1, HALF), (1, HALF), Err(Wide), Err(Wide)),
+        ] {
+            let x = Frac::new(a.0, a.1)?;
+            let y = Frac::new(b.0, b.1)?;
+            let sum = Frac::add(x, y).map(|f| (f.num, f.den));
+            let difference = Frac::sub(x, y).map(|f| (f.num, f.den));
+            assert!(rt; sum == added, "{x:?} {y:?}");
+            assert!(rt; difference == subtracted, "{x:?} {y:?}");
+        }
+        Ok(())
+    }
+
+    #[test]
+    fn products(rt: HostRuntime) -> Result<(), Fail> {
+        for (a, b, expected) in [
+            ((-2, 3), (9, 4), Ok((-3, 2))),
+            ((MOST, 1), (1, 1), Ok((MOST, 1))),
+            ((HALF, 1), (HALF / 2, 1), Ok((HALF / 2 * HALF, 1))),
+            ((HALF, 1), (HALF, 1), Err(Wide)),
+            ((HALF, 3), (3, HALF), Ok((1, 1))),
+            ((MOST, 2), (2, MOST), Err(Wide)),
+        ] {
+            let x = Frac::new(a.0, a.1)?;
+            let y = Frac::new(b.0, b.1)?;
+            let found = Frac::mul(x, y).map(|f| (f.num, f.den));
+            assert!(rt; found == expected, "{x:?} {y:?}");
+        }
+        Ok(())
+    }
+
+    #[test]
+    fn quotients(rt: HostRuntime) -> Result<(), Fail> {
+        for (a, b, expected) in [
+            ((1, 2), (-3, 4), Ok((-2, 3))),
+            ((0, 1), (-3, 4), Ok((0, 1))),
+            ((MOST, 1), (-MOST, 1), Ok((-1, 1))),
+            ((MOST, 1), (1, 2), Err(DivFault::Wide)),
+            ((1, MOST), (1, MOST), Ok((1, 1))),
+            ((2, MOST), (2, MOST), Err(DivFault::Wide)),
+            ((MOST, 1), (0, 1), Err(DivFault::Zero)),
+        ] {
+            let x = Frac::new(a.0, a.1)?;
+            let y = Frac::new(b.0, b.1)?;
+            let found = Frac::div(x, y).map(|f| (f.num, f.den));
+            assert!(rt; found == expected, "{x:?} {y:?}");
+        }
+        let least = Frac::neg(Frac::new(MOST, 2)?);
+        assert_eq!(rt; least.num, -MOST);
+        assert_eq!(rt; least.den, 2);
+        Ok(())
+    }
+}

@@ -63,3 +63,30 @@ impl Frac {
         }
     }
 }
+
+#[cfg(test)]
+mod tests {
+    use super::*;
+    use std::test::Fail;
+
+    const MOST: i128 = 85070591730234615865843651857942052863;
+
+    #[test]
+    fn orders(rt: HostRuntime) -> Result<(), Fail> {
+        for (a, b, expected) in [
+            ((1, 3), (1, 2), Ordering::Less),
+            ((-1, 3), (-1, 2), Ordering::Greater),
+            ((-1, MOST), (0, 1), Ordering::Less),
+            ((0, 1), (-1, MOST), Ordering::Greater),
+            ((MOST, 1), (MOST, 1), Ordering::Equal),
+            ((-MOST, 1), (MOST, 1), Ordering::Less),
+            ((MOST, MOST - 1), (MOST - 1, MOST - 2), Ordering::Less),
+            ((-MOST, MOST - 1), (1 - MOST, MOST - 2), Ordering::Greater),
+            ((355, 113), (22, 7), Ordering::Less),
+        ] {
+            let found = Frac::cmp(Frac::new(a.0, a.1)?, Frac::new(b.0, b.1)?);
+            assert!(rt; found == expected, "{a:?} {b:?}");
+        }
+        Ok(())
+    }
+}

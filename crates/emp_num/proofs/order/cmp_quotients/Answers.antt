@@ -1,6 +1,4 @@
-use Rattle.std.proofs.Common.{◌≡◌, ◌<◌, ◌/◌, ◌%◌, arith}
-use native.Mathlib.Nat.{div-add-mod}
-use Rattle.std.specs.declared.cmp.Ordering.{Ordering}
+use Rattle.std.proofs.Common.{arith}
 use Rattle.std.specs.declared.cmp.Ordering.TheVariants.{Less, Equal, Greater}
 use Rattle.emp_num.proofs.Quotients.{whole_less, rests_none, rest_less, rests_swap, rests_fall}
 use Rattle.emp_num.proofs.order.cmp_quotients.Goals as goal

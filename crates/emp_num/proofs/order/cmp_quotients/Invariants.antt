@@ -1,4 +1,4 @@
-use Rattle.std.proofs.Common.{ℕ, ◌+◌, ◌*◌, ◌<◌}
+use Rattle.std.proofs.Common.{◌+◌, ◌*◌, ◌<◌}
 use Rattle.std.specs.declared.cmp.Ordering.{Ordering}
 use Rattle.emp_num.specs.Orders.{IsCountOrder}
 use Rattle.emp_num.proofs.order.cmp_quotients.Given as goal

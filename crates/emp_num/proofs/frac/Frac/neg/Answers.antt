@@ -1,9 +1,9 @@
-use Rattle.std.proofs.Common.{◌≡◌, ◌<ℤ◌, ◌<◌, ◌^◌, neg_ℤ, pos, arith, unsigned_abs, sym, subst, rules, ap, ◌∙◌}
+use Rattle.std.proofs.Common.{◌≡◌, ◌<ℤ◌, neg_ℤ, pos, arith, sym, subst, rules}
 use mir.Syntax.{w128}
 use mir.Val.{SFits}
 use Rattle.std.proofs.lemmas.Int.{ints, to_z-of_z}
 use Rattle.emp_num.specs.Exact.{IsNarrow, IsCoprime}
-use Rattle.emp_num.proofs.Signs.{coprime_neg, size_neg}
+use Rattle.emp_num.proofs.Signs.{coprime_neg}
 use Rattle.emp_num.proofs.frac.Frac.neg.Goals as goal
 
 pub invariant_of-result : goal.invariant_of-result
