@@ -1,6 +1,7 @@
 pub mod Runs
 pub mod Wides
 pub mod NumeralForms
+pub mod LongestNumeral
 pub mod TokenForms
 pub mod TokenBytes
 pub mod Trims
