@@ -4,5 +4,6 @@ pub mod NumeralForms
 pub mod LongestNumeral
 pub mod TokenForms
 pub mod TokenBytes
+pub mod LongestToken
 pub mod Trims
 pub mod Lexing

@@ -28,7 +28,7 @@ pub record Formed (text : List ℕ) (kind : TokenKind) (n : ℕ) : Type 0 where
   pub size : n ≡ length part
   pub form : HasForm kind part
 
-either : (P : Type 0) (t : Bool) (a b x : Step) → cond t a b ≡ x → (t ≡ true → a ≡ x → P) → (t ≡ false → b ≡ x → P) → P
+pub either : (P : Type 0) (t : Bool) (a b x : Step) → cond t a b ≡ x → (t ≡ true → a ≡ x → P) → (t ≡ false → b ≡ x → P) → P
 either P true a b x e f g = f refl e
 either P false a b x e f g = g refl e
 
@@ -185,7 +185,7 @@ piece_formed text k n l e =
     dots h = let p = and_parts (has_at text 0 46) (has_at text 1 46) h in pair_formed 46 text (omega arith) (inr refl) (eqb-true (get_or text 0 0) 46 p.0) (eqb-true (get_or text 1 0) 46 p.1)
 
 -- ---- steps
-no_token : (text : List ℕ) (d : Directive) (k : TokenKind) (n : ℕ) → directive_step text d ≡ Take k n → ⊥
+pub no_token : (text : List ℕ) (d : Directive) (k : TokenKind) (n : ℕ) → directive_step text d ≡ Take k n → ⊥
 no_token text Nothing k n e = cc
 no_token text Begins k n e = go (block_size true text) e
   where
