@@ -1,19 +1,19 @@
 -- No numeral at the head of a text is longer than the one that is found.
-use Rattle.std.proofs.Common.{◌≡◌, ℕ, ◌+◌, ◌<◌, ◌≤◌, Bool, true, false, cond, IsTrue, List, [], ◌∷◌, ◌++◌, length, All, drop, get_or, refl, sym, ap, subst, ◌∙◌, ◌⊎◌, inl, inr, arith, append_assoc}
+use Rattle.std.proofs.Common.{◌≡◌, ℕ, ◌+◌, ◌<◌, ◌≤◌, Bool, true, false, IsTrue, List, [], ◌∷◌, ◌++◌, length, All, drop, get_or, refl, sym, ap, subst, ◌∙◌, ◌⊎◌, inl, inr, arith, append_assoc}
 use Rattle.std.specs.Prelude.{nat_eq}
 use Rattle.std.proofs.lemmas.Bool.{ne_eqb}
 use Rattle.std.proofs.lemmas.Bool.Decides.{nat_tests}
 use Rattle.std.proofs.lemmas.List.Elements.{All-nil, All-cons, All-head, All-tail}
 use Rattle.std.proofs.lemmas.List.{length-append}
-use Rattle.emp_num.specs.Numeral.{digit, is_mark, whole_of, fraction_of, tail_of, exponent_negative, exponent_digits, numeral_form}
-use Rattle.emp_num.specs.NumeralText.{PointText, no_point, point, SignText, no_sign, plus, minus, ExponentText, no_exponent, exponent, IsNumeral}
+use Rattle.emp_num.specs.Numeral.{digit, whole_of, numeral_form}
+use Rattle.emp_num.specs.NumeralText.{PointText, no_point, point, SignText, no_sign, plus, minus, ExponentText, no_exponent, exponent}
 use Rattle.emp_num.specs.NumeralText.{AllDigits as EachDigit}
 use Rattle.emp_num.proofs.NumeralTexts.{is_text}
 use Rattle.emp_lex.specs.declared.scan.Class.{Class}
 use Rattle.emp_lex.specs.declared.scan.Class.TheVariants.{Digit}
 use Rattle.emp_lex.specs.Bytes.{is_of, is_digit, is_exponent_mark, is_sign, run_size}
 use Rattle.emp_lex.specs.Pieces.{mantissa_by, mantissa_size, with_mark, exponent_size, with_exponent, numeral_size}
-use Rattle.emp_lex.proofs.NumeralForms.{AllDigits, Stops, run_seam, mantissa_seam, exponent_seam, with_some, pointed_exponent, sign_no_digit, mark_is, mark_no_point}
+use Rattle.emp_lex.proofs.NumeralForms.{AllDigits, run_seam, mantissa_seam, exponent_seam, with_some, pointed_exponent, sign_no_digit, mark_is, mark_no_point}
 
 to_digit : (b : ℕ) → digit b ≡ true → is_digit b ≡ true
 to_digit b h = grind (arith, nat_tests)

@@ -1,9 +1,8 @@
 -- A numeral that is taken is the longest at its place.
-use Rattle.std.proofs.Common.{◌≡◌, ℕ, ◌+◌, ◌<◌, ◌≤◌, Bool, true, false, cond, ◌&&◌, ◌||◌, List, ◌++◌, length, get_or, refl, sym, ap, subst, ◌∙◌, arith}
+use Rattle.std.proofs.Common.{◌≡◌, ℕ, ◌≤◌, Bool, true, ◌&&◌, ◌||◌, List, ◌++◌, length, get_or, sym, subst}
 use Rattle.std.specs.Prelude.{nat_eq, nat_lt}
 use Rattle.emp_num.specs.Numeral.{numeral_form}
 use Rattle.emp_lex.specs.declared.token.TokenKind.TheVariants.{Name, Numeral, Text, Relation, Symbol}
-use Rattle.emp_lex.specs.declared.piece.Step.{Step}
 use Rattle.emp_lex.specs.declared.piece.Step.TheVariants.{Skip, Take, Stop}
 use Rattle.emp_lex.specs.declared.piece.Defect.TheVariants.{BadByte, LongName}
 use Rattle.emp_lex.specs.declared.scan.Class.TheVariants.{Word, Line}

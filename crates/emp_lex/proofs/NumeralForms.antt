@@ -1,12 +1,12 @@
 -- A numeral token has the form of a numeral.
-use Rattle.std.proofs.Common.{◌≡◌, ℕ, ◌+◌, ◌-◌, ◌<◌, ◌≤◌, Bool, true, false, cond, not, ◌&&◌, ◌||◌, IsTrue, List, [], ◌∷◌, ◌++◌, length, All, take, drop, get_or, refl, sym, ap, subst, ◌∙◌, ◌⊎◌, inl, inr, arith, append_assoc, append-nil, zero-add, add-zero}
-use Rattle.std.specs.Prelude.{nat_eq, nat_lt, nat_le}
+use Rattle.std.proofs.Common.{◌≡◌, ℕ, ◌+◌, ◌<◌, Bool, true, false, cond, not, ◌&&◌, ◌||◌, IsTrue, List, [], ◌∷◌, ◌++◌, length, All, take, drop, get_or, refl, sym, ap, subst, ◌∙◌, ◌⊎◌, inl, inr, arith, append_assoc, append-nil, zero-add, add-zero}
+use Rattle.std.specs.Prelude.{nat_eq}
 use Rattle.std.proofs.lemmas.Bool.{eqb-true, eq-eqb, ne_eqb}
 use Rattle.std.proofs.lemmas.Bool.Decides.{nat_tests}
 use Rattle.std.proofs.lemmas.List.Elements.{All-nil, All-cons, All-head, All-tail}
 use Rattle.std.proofs.lemmas.List.{length-append, get_or-append-add}
 use Rattle.std.proofs.Math.Seq.{take-append_seam, drop-append-add}
-use Rattle.emp_num.specs.Numeral.{digit, digits_of, after_digits, first, is_empty, fraction_digits, after_fraction, is_mark, exponent_digits, only_digits, exponent_form, numeral_form}
+use Rattle.emp_num.specs.Numeral.{digit, digits_of, after_digits, first, is_empty, only_digits, exponent_form, numeral_form}
 use Rattle.emp_lex.specs.declared.scan.Class.{Class}
 use Rattle.emp_lex.specs.declared.scan.Class.TheVariants.{Digit}
 use Rattle.emp_lex.specs.Bytes.{is_of, is_digit, is_exponent_mark, is_sign, run_size}

@@ -1,5 +1,5 @@
 -- A token has the form of its kind.
-use Rattle.std.proofs.Common.{◌≡◌, ℕ, ◌+◌, ◌<◌, ◌≤◌, Bool, true, false, cond, ◌&&◌, ◌||◌, IsTrue, List, [], ◌∷◌, ◌++◌, length, All, Option, Some, None, take, drop, get_or, refl, sym, ap, subst, ◌∙◌, ◌⊎◌, inl, inr, arith, append_assoc}
+use Rattle.std.proofs.Common.{◌≡◌, ℕ, ◌+◌, ◌<◌, ◌≤◌, Bool, true, false, cond, ◌&&◌, ◌||◌, List, [], ◌∷◌, ◌++◌, length, Option, Some, None, take, get_or, refl, sym, ap, subst, ◌∙◌, ◌⊎◌, inl, inr, arith, append_assoc}
 use Rattle.std.specs.Prelude.{nat_eq, nat_lt}
 use Rattle.std.proofs.lemmas.Bool.{eqb-true, and_parts, or_cases}
 use Rattle.std.proofs.lemmas.Bool.Decides.{nat_tests}
@@ -9,14 +9,14 @@ use Rattle.emp_lex.specs.declared.token.TokenKind.{TokenKind}
 use Rattle.emp_lex.specs.declared.token.TokenKind.TheVariants.{Name, Numeral, Text, Relation, Symbol}
 use Rattle.emp_lex.specs.declared.piece.Step.{Step}
 use Rattle.emp_lex.specs.declared.piece.Step.TheVariants.{Skip, Take, Stop}
-use Rattle.emp_lex.specs.declared.piece.Defect.TheVariants.{BadByte, LongName, OpenBlock, Dollar}
+use Rattle.emp_lex.specs.declared.piece.Defect.TheVariants.{BadByte, LongName}
 use Rattle.emp_lex.specs.declared.dollar.Directive.{Directive}
 use Rattle.emp_lex.specs.declared.dollar.Directive.TheVariants.{Nothing, Begins, Ends, Unknown}
 use Rattle.emp_lex.specs.declared.scan.Class.TheVariants.{Word, Quoted, Line}
 use Rattle.emp_lex.specs.Bytes.{is_letter, is_blank, is_of, is_relation_letter, is_single, run_size}
 use Rattle.emp_lex.specs.DollarLines.{directive, block_size}
-use Rattle.emp_lex.specs.Pieces.{has_at, begins_with, numeral_size, quoted_size, is_relation, symbol_size, word_piece, quote_piece, plain_piece, piece, block_step, directive_step, dollar_step, step}
-use Rattle.emp_lex.specs.Forms.{HasForm, IsName, IsText, IsRelation, IsSymbol}
+use Rattle.emp_lex.specs.Pieces.{has_at, begins_with, numeral_size, is_relation, symbol_size, word_piece, quote_piece, plain_piece, piece, block_step, directive_step, dollar_step, step}
+use Rattle.emp_lex.specs.Forms.{HasForm}
 use Rattle.emp_lex.proofs.Runs.{run_some}
 use Rattle.emp_lex.proofs.NumeralForms.{Run, run_is, numeral_found, seam_here}
 

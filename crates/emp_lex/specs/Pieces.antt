@@ -1,6 +1,5 @@
 -- What a text begins with: the longest piece at its head, or a special line.
-use Rattle.std.specs.Prelude.{ℕ, ◌+◌, ◌<◌, ◌≤◌, Bool, true, false, cond, ◌&&◌, ◌||◌, nat_eq, nat_lt, nat_le, List, [], ◌∷◌, drop, length, Option, Some, None, slice_index}
-use Rattle.emp_lex.specs.declared.token.TokenKind.{TokenKind}
+use Rattle.std.specs.Prelude.{ℕ, ◌+◌, ◌<◌, ◌≤◌, Bool, true, false, cond, ◌&&◌, ◌||◌, nat_eq, nat_lt, List, drop, Option, Some, None, slice_index}
 use Rattle.emp_lex.specs.declared.token.TokenKind.TheVariants.{Name, Numeral, Text, Relation, Symbol}
 use Rattle.emp_lex.specs.declared.piece.Step.{Step}
 use Rattle.emp_lex.specs.declared.piece.Step.TheVariants.{Skip, Take, Stop}
