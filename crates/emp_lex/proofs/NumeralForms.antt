@@ -1,12 +1,12 @@
 -- A numeral token has the form of a numeral.
-use Rattle.std.proofs.Common.{◌≡◌, ℕ, ◌+◌, ◌-◌, ◌<◌, ◌≤◌, Bool, true, false, cond, not, ◌&&◌, ◌||◌, IsTrue, List, [], ◌∷◌, ◌++◌, length, All, take, drop, get_or, refl, sym, ap, subst, ◌∙◌, ◌⊎◌, inl, inr, arith, append_assoc, append-nil, zero-add, add-zero}
-use Rattle.std.specs.Prelude.{nat_eq, nat_lt, nat_le}
+use Rattle.std.proofs.Common.{◌≡◌, ℕ, ◌+◌, ◌<◌, Bool, true, false, cond, not, ◌&&◌, ◌||◌, IsTrue, List, [], ◌∷◌, ◌++◌, length, All, take, drop, get_or, refl, sym, ap, subst, ◌∙◌, ◌⊎◌, inl, inr, arith, append_assoc, append-nil, zero-add, add-zero}
+use Rattle.std.specs.Prelude.{nat_eq}
 use Rattle.std.proofs.lemmas.Bool.{eqb-true, eq-eqb, ne_eqb}
 use Rattle.std.proofs.lemmas.Bool.Decides.{nat_tests}
 use Rattle.std.proofs.lemmas.List.Elements.{All-nil, All-cons, All-head, All-tail}
 use Rattle.std.proofs.lemmas.List.{length-append, get_or-append-add}
 use Rattle.std.proofs.Math.Seq.{take-append_seam, drop-append-add}
-use Rattle.emp_num.specs.Numeral.{digit, digits_of, after_digits, first, is_empty, fraction_digits, after_fraction, is_mark, exponent_digits, only_digits, exponent_form, numeral_form}
+use Rattle.emp_num.specs.Numeral.{digit, digits_of, after_digits, first, is_empty, only_digits, exponent_form, numeral_form}
 use Rattle.emp_lex.specs.declared.scan.Class.{Class}
 use Rattle.emp_lex.specs.declared.scan.Class.TheVariants.{Digit}
 use Rattle.emp_lex.specs.Bytes.{is_of, is_digit, is_exponent_mark, is_sign, run_size}
@@ -48,7 +48,7 @@ one_digit b h = grind (arith, nat_tests)
 no_digit : (b : ℕ) → is_digit b ≡ false → digit b ≡ false
 no_digit b h = grind (arith, nat_tests)
 
-abbrev AllDigits : List ℕ → Type 0
+abbrev pub AllDigits : List ℕ → Type 0
 AllDigits d = All (λ b. IsTrue (is_of Digit b)) d
 
 digits_seam : (d r : List ℕ) → AllDigits d → Stops Digit r → digits_of (d ++ r) ≡ d
@@ -87,7 +87,7 @@ mark_seam q r = ap (λ b. cond (is_sign b) 2 1) (seam_at q r 1)
 tail_seam : (q r : List ℕ) (k : ℕ) → digits_from (q ++ r) (length q + k) ≡ digits_from r k
 tail_seam q r k = ap (run_size Digit) (drop-append-add q r k)
 
-exponent_seam : (q r : List ℕ) → exponent_size (q ++ r) (length q) ≡ exponent_size r 0
+pub exponent_seam : (q r : List ℕ) → exponent_size (q ++ r) (length q) ≡ exponent_size r 0
 exponent_seam q r =
     ap (λ b. cond (is_exponent_mark b) (with_mark (mark_size (q ++ r) (length q)) (digits_from (q ++ r) (length q + mark_size (q ++ r) (length q)))) 0) (seam_here q r)
     ∙ ap (λ m. cond (is_exponent_mark (get_or r 0 0)) (with_mark m (digits_from (q ++ r) (length q + m))) 0) (mark_seam q r)
@@ -106,13 +106,13 @@ record Exponent (r : List ℕ) (n : ℕ) : Type 0 where
 none : (r : List ℕ) (n : ℕ) → n ≡ 0 → Exponent r n
 none r n e = record { part = []; rest = r; is = refl; size = e; form = refl; stops = tt; no_point = refl }
 
-mark_is : (b : ℕ) → is_exponent_mark b ≡ true → is_digit b ≡ false
+pub mark_is : (b : ℕ) → is_exponent_mark b ≡ true → is_digit b ≡ false
 mark_is b h = grind (arith, nat_tests)
 
-mark_no_point : (b : ℕ) → is_exponent_mark b ≡ true → nat_eq b 46 ≡ false
+pub mark_no_point : (b : ℕ) → is_exponent_mark b ≡ true → nat_eq b 46 ≡ false
 mark_no_point b h = grind (arith, nat_tests)
 
-sign_no_digit : (b : ℕ) → is_digit b ≡ true → is_sign b ≡ false
+pub sign_no_digit : (b : ℕ) → is_digit b ≡ true → is_sign b ≡ false
 sign_no_digit b h = grind (arith, nat_tests)
 
 zero_or_more : (n : ℕ) → (n ≡ 0) ⊎ (0 < n)
@@ -203,19 +203,19 @@ pointed d f r h g l x = record {
   form = rw (digits_seam d (46 ∷ (f ++ x.part)) h refl, after_seam d (46 ∷ (f ++ x.part)) h refl, digits_seam f x.part g x.stops, after_seam f x.part g x.stops, some_digit d f l, x.form) refl;
 }
 
-mantissa_seam : (d r : List ℕ) → AllDigits d → Stops Digit r → mantissa_size (d ++ r) ≡ mantissa_by (nat_eq (get_or r 0 0) 46) (length d) (digits_from r 1)
+pub mantissa_seam : (d r : List ℕ) → AllDigits d → Stops Digit r → mantissa_size (d ++ r) ≡ mantissa_by (nat_eq (get_or r 0 0) 46) (length d) (digits_from r 1)
 mantissa_seam d r h k =
     ap (λ n. mantissa_by (nat_eq (get_or (d ++ r) n 0) 46) n (digits_from (d ++ r) (n + 1))) (run_seam Digit d r h k)
     ∙ ap (λ b. mantissa_by (nat_eq b 46) (length d) (digits_from (d ++ r) (length d + 1))) (seam_here d r)
     ∙ ap (λ n. mantissa_by (nat_eq (get_or r 0 0) 46) (length d) n) (tail_seam d r 1)
 
-with_some : (text : List ℕ) (n : ℕ) → 0 < n → with_exponent text n ≡ n + exponent_size text n
+pub with_some : (text : List ℕ) (n : ℕ) → 0 < n → with_exponent text n ≡ n + exponent_size text n
 with_some text n l = rw (ne_eqb n 0 (λ e. omega arith)) refl
 
 with_none : (text : List ℕ) (n : ℕ) → n ≡ 0 → with_exponent text n ≡ 0
 with_none text n e = rw (eq-eqb n 0 e) refl
 
-pointed_exponent : (d f r : List ℕ) → exponent_size (d ++ (46 ∷ (f ++ r))) (length d + 1 + length f) ≡ exponent_size r 0
+pub pointed_exponent : (d f r : List ℕ) → exponent_size (d ++ (46 ∷ (f ++ r))) (length d + 1 + length f) ≡ exponent_size r 0
 pointed_exponent d f r =
     let l : length (d ++ (46 ∷ f)) ≡ length d + 1 + length f = omega (arith, length-append d (46 ∷ f)) in
     ap (λ n. exponent_size (d ++ (46 ∷ (f ++ r))) n) (sym l) ∙ ap (λ t. exponent_size t (length (d ++ (46 ∷ f)))) (sym (append_assoc d (46 ∷ f) r)) ∙ exponent_seam (d ++ (46 ∷ f)) r

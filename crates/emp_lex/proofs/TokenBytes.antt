@@ -1,18 +1,14 @@
 -- The bytes of each token of a text have the form of its kind.
-use Rattle.std.proofs.Common.{◌≡◌, ℕ, ◌+◌, ◌-◌, ◌<◌, ◌≤◌, List, [], ◌∷◌, length, All, Option, take, drop, refl, sym, ap, subst, ◌∙◌, arith}
-use Rattle.std.specs.Prelude.{slice_range}
+use Rattle.std.proofs.Common.{◌≡◌, ℕ, ◌+◌, List, ◌∷◌, All, Option, take, drop, refl, sym, ap, subst, ◌∙◌, arith}
 use Rattle.std.proofs.lemmas.List.{drop-drop}
 use Rattle.std.proofs.lemmas.List.Elements.{All-nil, All-cons}
 use Rattle.emp_ast.specs.declared.tree.Place.{Place}
 use Rattle.emp_lex.specs.declared.token.Token.{Token}
 use Rattle.emp_lex.specs.declared.fault.LexFault.{LexFault}
 use Rattle.emp_lex.specs.Tokens.{Reads, at_end, skipped, taken, stopped, too_wide, IsTokenList}
-use Rattle.emp_lex.specs.Forms.{HasForm}
+use Rattle.emp_lex.specs.Forms.{HasForm, IsFormed}
 use Rattle.emp_lex.proofs.TokenForms.{step_formed, formed_bytes}
 use Rattle.emp_lex.proofs.Lexing.{slice_is}
-
-abbrev pub IsFormed : List ℕ → Token → Type 0
-IsFormed text t = HasForm t.kind (slice_range text t.from t.to)
 
 behind_is : (text : List ℕ) (at size b : ℕ) (bs : List ℕ) → drop at text ≡ b ∷ bs → drop (at + size) text ≡ drop size (b ∷ bs)
 behind_is text at size b bs e = sym (drop-drop size at text) ∙ ap (drop size) e

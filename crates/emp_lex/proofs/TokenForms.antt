@@ -1,5 +1,5 @@
 -- A token has the form of its kind.
-use Rattle.std.proofs.Common.{◌≡◌, ℕ, ◌+◌, ◌<◌, ◌≤◌, Bool, true, false, cond, ◌&&◌, ◌||◌, IsTrue, List, [], ◌∷◌, ◌++◌, length, All, Option, Some, None, take, drop, get_or, refl, sym, ap, subst, ◌∙◌, ◌⊎◌, inl, inr, arith, append_assoc}
+use Rattle.std.proofs.Common.{◌≡◌, ℕ, ◌+◌, ◌<◌, ◌≤◌, Bool, true, false, cond, ◌&&◌, ◌||◌, List, [], ◌∷◌, ◌++◌, length, Option, Some, None, take, get_or, refl, sym, ap, subst, ◌∙◌, ◌⊎◌, inl, inr, arith, append_assoc}
 use Rattle.std.specs.Prelude.{nat_eq, nat_lt}
 use Rattle.std.proofs.lemmas.Bool.{eqb-true, and_parts, or_cases}
 use Rattle.std.proofs.lemmas.Bool.Decides.{nat_tests}
@@ -9,14 +9,14 @@ use Rattle.emp_lex.specs.declared.token.TokenKind.{TokenKind}
 use Rattle.emp_lex.specs.declared.token.TokenKind.TheVariants.{Name, Numeral, Text, Relation, Symbol}
 use Rattle.emp_lex.specs.declared.piece.Step.{Step}
 use Rattle.emp_lex.specs.declared.piece.Step.TheVariants.{Skip, Take, Stop}
-use Rattle.emp_lex.specs.declared.piece.Defect.TheVariants.{BadByte, LongName, OpenBlock, Dollar}
+use Rattle.emp_lex.specs.declared.piece.Defect.TheVariants.{BadByte, LongName}
 use Rattle.emp_lex.specs.declared.dollar.Directive.{Directive}
 use Rattle.emp_lex.specs.declared.dollar.Directive.TheVariants.{Nothing, Begins, Ends, Unknown}
 use Rattle.emp_lex.specs.declared.scan.Class.TheVariants.{Word, Quoted, Line}
 use Rattle.emp_lex.specs.Bytes.{is_letter, is_blank, is_of, is_relation_letter, is_single, run_size}
 use Rattle.emp_lex.specs.DollarLines.{directive, block_size}
-use Rattle.emp_lex.specs.Pieces.{has_at, begins_with, numeral_size, quoted_size, is_relation, symbol_size, word_piece, quote_piece, plain_piece, piece, block_step, directive_step, dollar_step, step}
-use Rattle.emp_lex.specs.Forms.{HasForm, IsName, IsText, IsRelation, IsSymbol}
+use Rattle.emp_lex.specs.Pieces.{has_at, begins_with, numeral_size, is_relation, symbol_size, word_piece, quote_piece, plain_piece, piece, block_step, directive_step, dollar_step, step}
+use Rattle.emp_lex.specs.Forms.{HasForm}
 use Rattle.emp_lex.proofs.Runs.{run_some}
 use Rattle.emp_lex.proofs.NumeralForms.{Run, run_is, numeral_found, seam_here}
 
@@ -28,7 +28,7 @@ pub record Formed (text : List ℕ) (kind : TokenKind) (n : ℕ) : Type 0 where
   pub size : n ≡ length part
   pub form : HasForm kind part
 
-either : (P : Type 0) (t : Bool) (a b x : Step) → cond t a b ≡ x → (t ≡ true → a ≡ x → P) → (t ≡ false → b ≡ x → P) → P
+pub either : (P : Type 0) (t : Bool) (a b x : Step) → cond t a b ≡ x → (t ≡ true → a ≡ x → P) → (t ≡ false → b ≡ x → P) → P
 either P true a b x e f g = f refl e
 either P false a b x e f g = g refl e
 
@@ -129,12 +129,12 @@ plain_formed text k n l e =
     either P (nat_lt 0 (numeral_size text)) (Take Numeral (numeral_size text)) _ (Take k n) e
     (λ t f. same_take text Numeral k (numeral_size text) n f (numeral_formed text (above_0 (numeral_size text) t)))
     (λ _ f.
-      either P (is_relation text) (Take Relation 3) _ (Take k n) f
-      (λ t g. same_take text Relation k 3 n g (relation_of text t))
-      (λ _ g.
-        either P (nat_lt 0 (symbol_size text)) (Take Symbol (symbol_size text)) (Stop BadByte) (Take k n) g
-        (λ t h. same_take text Symbol k (symbol_size text) n h (symbol_formed text l (above_0 (symbol_size text) t)))
-        (λ _ h. cc)))
+    either P (is_relation text) (Take Relation 3) _ (Take k n) f
+    (λ t g. same_take text Relation k 3 n g (relation_of text t))
+    (λ _ g.
+    either P (nat_lt 0 (symbol_size text)) (Take Symbol (symbol_size text)) (Stop BadByte) (Take k n) g
+    (λ t h. same_take text Symbol k (symbol_size text) n h (symbol_formed text l (above_0 (symbol_size text) t)))
+    (λ _ h. cc)))
   where
     P : Type 0
     P = Formed text k n
@@ -168,15 +168,15 @@ piece_formed text k n l e =
     either P (is_blank (get_or text 0 0)) (Skip 1) _ (Take k n) e
     (λ _ f. cc)
     (λ _ f.
-      either P (is_letter (get_or text 0 0)) (word_piece text) _ (Take k n) f
-      (λ t g. word_formed text k n l t g)
-      (λ _ g.
-        either P (has_at text 0 39 || has_at text 0 34) (quote_piece (get_or text 0 0) text) _ (Take k n) g
-        (λ t h. text_formed text k n l t h)
-        (λ _ h.
-          either P (has_at text 0 46 && has_at text 1 46) (Take Symbol 2) (plain_piece text) (Take k n) h
-          (λ t i. same_take text Symbol k 2 n i (dots t))
-          (λ _ i. plain_formed text k n l i))))
+    either P (is_letter (get_or text 0 0)) (word_piece text) _ (Take k n) f
+    (λ t g. word_formed text k n l t g)
+    (λ _ g.
+    either P (has_at text 0 39 || has_at text 0 34) (quote_piece (get_or text 0 0) text) _ (Take k n) g
+    (λ t h. text_formed text k n l t h)
+    (λ _ h.
+    either P (has_at text 0 46 && has_at text 1 46) (Take Symbol 2) (plain_piece text) (Take k n) h
+    (λ t i. same_take text Symbol k 2 n i (dots t))
+    (λ _ i. plain_formed text k n l i))))
   where
     P : Type 0
     P = Formed text k n
@@ -185,7 +185,7 @@ piece_formed text k n l e =
     dots h = let p = and_parts (has_at text 0 46) (has_at text 1 46) h in pair_formed 46 text (omega arith) (inr refl) (eqb-true (get_or text 0 0) 46 p.0) (eqb-true (get_or text 1 0) 46 p.1)
 
 -- ---- steps
-no_token : (text : List ℕ) (d : Directive) (k : TokenKind) (n : ℕ) → directive_step text d ≡ Take k n → ⊥
+pub no_token : (text : List ℕ) (d : Directive) (k : TokenKind) (n : ℕ) → directive_step text d ≡ Take k n → ⊥
 no_token text Nothing k n e = cc
 no_token text Begins k n e = go (block_size true text) e
   where
@@ -200,9 +200,9 @@ step_formed begins text k n l e =
     either (Formed text k n) (begins && begins_with 42 text) (Skip (run_size Line text)) _ (Take k n) e
     (λ _ f. cc)
     (λ _ f.
-      either (Formed text k n) (begins && begins_with 36 text) (dollar_step text) (piece text) (Take k n) f
-      (λ _ g. absurd (no_token text (directive text) k n g))
-      (λ _ g. piece_formed text k n l g))
+    either (Formed text k n) (begins && begins_with 36 text) (dollar_step text) (piece text) (Take k n) f
+    (λ _ g. absurd (no_token text (directive text) k n g))
+    (λ _ g. piece_formed text k n l g))
 
 pub formed_bytes : (text : List ℕ) (k : TokenKind) (n : ℕ) → Formed text k n → HasForm k (take n text)
 formed_bytes text k n f =

@@ -1,5 +1,5 @@
 -- Bytes, and runs of bytes of one class.
-use Rattle.std.specs.Prelude.{ℕ, ◌+◌, Bool, true, false, cond, not, ◌&&◌, ◌||◌, nat_eq, nat_le, List, [], ◌∷◌}
+use Rattle.std.specs.Prelude.{ℕ, ◌+◌, Bool, cond, not, ◌&&◌, ◌||◌, nat_eq, nat_le, List, [], ◌∷◌}
 use Rattle.emp_lex.specs.declared.scan.Class.{Class}
 use Rattle.emp_lex.specs.declared.scan.Class.TheVariants.{Word, Digit, Line, Solid, Quoted}
 

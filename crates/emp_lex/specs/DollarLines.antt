@@ -1,5 +1,5 @@
 -- Dollar lines, and the blocks that they begin and end.
-use Rattle.std.specs.Prelude.{ℕ, ◌+◌, ◌<◌, ◌≤◌, Bool, true, false, cond, ◌&&◌, ◌||◌, nat_eq, List, [], ◌∷◌, take, Option, Some, None, bytes_eq, codes, slice_range}
+use Rattle.std.specs.Prelude.{ℕ, ◌+◌, ◌<◌, ◌≤◌, Bool, true, false, cond, ◌&&◌, ◌||◌, nat_eq, List, [], ◌∷◌, Option, Some, None, bytes_eq, codes, slice_range}
 use Rattle.emp_lex.specs.declared.dollar.Directive.{Directive}
 use Rattle.emp_lex.specs.declared.dollar.Directive.TheVariants.{Nothing, Begins, Ends, Unknown}
 use Rattle.emp_lex.specs.declared.scan.Class.TheVariants.{Line, Solid}

@@ -1,6 +1,7 @@
 -- The forms of tokens.
-use Rattle.std.specs.Prelude.{◌≡◌, ℕ, ◌≤◌, Bool, true, ◌⊎◌, IsTrue, List, [], ◌∷◌, ◌++◌, length, All, codes, slice_index}
+use Rattle.std.specs.Prelude.{◌≡◌, ℕ, ◌≤◌, true, ◌⊎◌, IsTrue, List, [], ◌∷◌, ◌++◌, length, All, codes, slice_index, slice_range}
 use Rattle.emp_num.specs.Numeral.{numeral_form}
+use Rattle.emp_lex.specs.declared.token.Token.{Token}
 use Rattle.emp_lex.specs.declared.token.TokenKind.{TokenKind}
 use Rattle.emp_lex.specs.declared.token.TokenKind.TheVariants.{Name, Numeral, Text, Relation, Symbol}
 use Rattle.emp_lex.specs.declared.scan.Class.TheVariants.{Word, Quoted}
@@ -38,3 +39,7 @@ HasForm Numeral bs = numeral_form bs ≡ true
 HasForm Text bs = IsText bs
 HasForm Relation bs = IsRelation bs
 HasForm Symbol bs = IsSymbol bs
+
+-- the bytes of a token in a text have the form of its kind
+abbrev pub IsFormed : List ℕ → Token → Type 0
+IsFormed text t = HasForm t.kind (slice_range text t.from t.to)

@@ -1,6 +1,5 @@
 -- What a text begins with: the longest piece at its head, or a special line.
-use Rattle.std.specs.Prelude.{ℕ, ◌+◌, ◌<◌, ◌≤◌, Bool, true, false, cond, ◌&&◌, ◌||◌, nat_eq, nat_lt, nat_le, List, [], ◌∷◌, drop, length, Option, Some, None, slice_index}
-use Rattle.emp_lex.specs.declared.token.TokenKind.{TokenKind}
+use Rattle.std.specs.Prelude.{ℕ, ◌+◌, ◌<◌, ◌≤◌, Bool, true, false, cond, ◌&&◌, ◌||◌, nat_eq, nat_lt, List, drop, Option, Some, None, slice_index}
 use Rattle.emp_lex.specs.declared.token.TokenKind.TheVariants.{Name, Numeral, Text, Relation, Symbol}
 use Rattle.emp_lex.specs.declared.piece.Step.{Step}
 use Rattle.emp_lex.specs.declared.piece.Step.TheVariants.{Skip, Take, Stop}
@@ -11,7 +10,7 @@ use Rattle.emp_lex.specs.declared.scan.Class.TheVariants.{Word, Digit, Line, Quo
 use Rattle.emp_lex.specs.Bytes.{is_letter, is_blank, is_exponent_mark, is_sign, is_relation_letter, is_single, run_size}
 use Rattle.emp_lex.specs.DollarLines.{directive, block_size}
 
--- the byte there, or 0 behind the end
+-- the byte there is b; behind the end stands 0
 abbrev pub has_at : List ℕ → ℕ → ℕ → Bool
 has_at text at b = nat_eq (slice_index text at) b
 

@@ -5,6 +5,7 @@
 
 pub mod dollar;
 pub mod fault;
+pub mod laws;
 pub mod lexer;
 pub mod piece;
 pub mod scan;

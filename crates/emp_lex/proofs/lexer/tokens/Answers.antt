@@ -1,5 +1,4 @@
-use Rattle.std.proofs.Common.{arith, sym, ◌∙◌, ap, subst, ◌≡◌}
-use Rattle.emp_lex.specs.Tokens.{Refuses}
+use Rattle.std.proofs.Common.{arith, sym, ◌∙◌}
 use Rattle.emp_lex.proofs.Lexing.{past_skip, past_take, stop_there, wide_there, read_at_end, refuses, skip_within, take_within, slice_length}
 use Rattle.emp_lex.proofs.lexer.tokens.Goals as goal
 use Rattle.emp_lex.proofs.lexer.tokens.Goals.{in-Skip, in-Take+else-is_too_wide+in_ok-push-in-Take}

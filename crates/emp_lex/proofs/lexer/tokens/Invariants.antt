@@ -1,4 +1,4 @@
-use Rattle.std.proofs.Common.{◌≤◌, ◌-◌, ◌+◌, length, drop}
+use Rattle.std.proofs.Common.{◌≤◌, ◌-◌, ◌+◌, length}
 use Rattle.emp_lex.proofs.Lexing.{Progress}
 use Rattle.emp_lex.proofs.lexer.tokens.Given as goal
 
