@@ -1,5 +1,7 @@
-pub mod Value
-pub mod Meets
 pub mod Blocks
-pub mod Solved
 pub mod Examples
+pub mod Expression
+pub mod Meets
+pub mod Names
+pub mod Solved
+pub mod Value

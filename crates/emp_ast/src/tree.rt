@@ -21,6 +21,15 @@ pub struct Place {
     pub column: u32,
 }
 
+/// What joins two expressions: `+`, `-`, `*`, `/`.
+#[derive(Clone, Copy, Debug, PartialEq, Eq)]
+pub enum Operator {
+    Plus,
+    Minus,
+    Times,
+    Over,
+}
+
 /// A node of an expression. Operands are numbers of earlier nodes.
 #[derive(Clone, Copy, Debug)]
 pub enum Node {

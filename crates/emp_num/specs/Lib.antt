@@ -9,3 +9,4 @@ pub mod FracText
 pub mod Numeral
 pub mod FracLaws
 pub mod NumeralText
+pub mod Opposite

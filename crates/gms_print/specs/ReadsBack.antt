@@ -1,0 +1,17 @@
+-- What is printed of a model that some text stands for.
+use Rattle.std.specs.Prelude.{ℕ, List}
+use Rattle.emp_ast.specs.declared.model.Model.{Model}
+use Rattle.emp_ast.specs.Names.{SameModel}
+use Rattle.gms_read.specs.Texts.{IsModelText}
+use Rattle.gms_print.specs.Canonical.{IsCanonical}
+
+-- some text stands for the model
+pub record HasText (m : Model) : Type 0 where
+  pub text : List ℕ
+  pub is : IsModelText text m
+
+-- the text stands for the model, places aside
+pub record ReadsBack (text : List ℕ) (m : Model) : Type 0 where
+  pub model : Model
+  pub is : IsModelText text model
+  pub same : SameModel m model

@@ -1,0 +1,5 @@
+//! Prints models as canonical texts.
+//!
+//! What the canonical text of a model is stands in `specs/Canonical.antt`, and that it stands for the same model in
+//! `specs/ReadsBack.antt`.
+#![tactic(auto)]

@@ -1,0 +1,7 @@
+pub mod Grammar
+pub mod Items
+pub mod Lexemes
+pub mod Nesting
+pub mod Rules
+pub mod Texts
+pub mod Steps

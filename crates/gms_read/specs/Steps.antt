@@ -1,0 +1,29 @@
+-- What the steps of the reader give.
+use Rattle.std.specs.Prelude.{◌≡◌, ◌⊎◌, ℕ, List, Result, Ok, Err}
+use Rattle.gms_read.specs.declared.lexeme.Lexeme.{Lexeme}
+use Rattle.gms_read.specs.declared.item.Item.{Item}
+use Rattle.gms_read.specs.declared.draft.Draft.{Draft}
+use Rattle.gms_read.specs.declared.fault.ModelFault.{ModelFault}
+use Rattle.gms_read.specs.declared.fault.ModelFault.TheVariants.{Syntax, NoMemory}
+use Rattle.emp_ast.specs.declared.tree.Place.{Place}
+use Rattle.gms_read.specs.Grammar.{Statement, IsFile}
+use Rattle.gms_read.specs.Items.{items_of}
+use Rattle.gms_read.specs.Rules.{after_all, nothing_yet}
+
+-- the items are those of statements for which the lexemes stand
+pub record AreItems (ts : List Lexeme) (items : List Item) : Type 0 where
+  pub statements : List Statement
+  pub file : IsFile ts statements
+  pub are : items ≡ items_of statements
+
+abbrev pub StandsForNone : List Lexeme → Type 0
+StandsForNone ts = (ss : List Statement) → IsFile ts ss → ⊥
+
+-- the lexemes stand for no statements, or memory is wanted
+abbrev pub RefusesLexemes : List Lexeme → ModelFault → Type 0
+RefusesLexemes ts f = (f ≡ NoMemory) ⊎ ((p : Place) × (f ≡ Syntax p) × StandsForNone ts)
+
+-- whatever statements the items are of, the draft is what they give, or the fault is the first that they have
+abbrev pub DraftsAll : List ℕ → List Item → Result Draft ModelFault → Type 0
+DraftsAll text items (Ok d) = (ss : List Statement) → items ≡ items_of ss → after_all text nothing_yet ss ≡ Ok d
+DraftsAll text items (Err f) = (f ≡ NoMemory) ⊎ ((ss : List Statement) → items ≡ items_of ss → after_all text nothing_yet ss ≡ Err f)

@@ -1,0 +1,11 @@
+//! Reads model texts.
+//!
+//! Which model a text stands for, and what the first fault of a text that stands for none is, stands in
+//! `specs/Texts.antt`, over the grammar (`specs/Grammar.antt`) and the rules (`specs/Rules.antt`).
+#![tactic(auto)]
+
+pub mod draft;
+pub mod fault;
+pub mod item;
+pub mod lexeme;
+pub mod table;
