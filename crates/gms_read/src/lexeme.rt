@@ -89,3 +89,21 @@ pub struct Lexeme {
     pub to: u32,
     pub place: Place,
 }
+
+ghost use Rattle.std.specs.Prelude.{◌≡◌};
+ghost use Rattle.gms_read.specs.Lexemes.{spelling};
+
+impl Lexeme {
+    /// Its bytes in the text.
+    pub fn spelling(self, text: &[u8]) -> &[u8]
+        ensures { result.now ≡ spelling text.now self }
+    {
+        let from = self.from as usize;
+        let to = (self.to as usize).min(text.len());
+        if from < to {
+            &text[from..to]
+        } else {
+            &text[..0]
+        }
+    }
+}

@@ -8,4 +8,6 @@ pub mod draft;
 pub mod fault;
 pub mod item;
 pub mod lexeme;
+pub mod parse;
+pub mod perform;
 pub mod table;
