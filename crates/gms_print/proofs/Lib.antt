@@ -1,2 +1,4 @@
 pub mod Pieces
 pub mod Sound
+pub mod Taking
+pub mod Cutting
