@@ -2,3 +2,4 @@ pub mod Pieces
 pub mod Sound
 pub mod Taking
 pub mod Cutting
+pub mod Numerals
