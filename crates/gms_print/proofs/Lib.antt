@@ -1,2 +1,5 @@
 pub mod Pieces
 pub mod Sound
+pub mod Taking
+pub mod Cutting
+pub mod Numerals
