@@ -1,3 +1,4 @@
 pub mod Pieces
 pub mod Sound
 pub mod ExpressionReads
+pub mod ExpressionPieces
