@@ -2,3 +2,4 @@ pub mod Pieces
 pub mod Sound
 pub mod ExpressionReads
 pub mod ExpressionPieces
+pub mod ExpressionLexemes
