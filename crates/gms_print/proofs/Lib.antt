@@ -3,3 +3,4 @@ pub mod Sound
 pub mod ExpressionReads
 pub mod ExpressionPieces
 pub mod ExpressionLexemes
+pub mod ExpressionForms
