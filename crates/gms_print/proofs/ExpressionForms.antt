@@ -272,12 +272,12 @@ reads_call {names} {k} {e} {t} n x r = record {
         let m = are_middle text (r.pieces []) (symbol_piece (codes ",") []) (numeral_piece x.fraction (decimal n) [] ∷ symbol_piece (codes ")") gap ∷ []) ts h.1.1 in
         both gap text w o ts m.front m.at m.back h.0.sort h.1.0.sort m.is m.are_front m.of.sort m.are_back
 
--- ---- looser levels, and more parentheses
-pub reads_looser : {names : List (List ℕ)} {k l : ℕ} {level other : Level} {e : Expression} {t : List ℕ} → k ≤ l → ((us : List Lexeme) (w : Written) → Stands level us w → Stands other us w) → ReadsAt names level k e t → ReadsAt names other l e t
-reads_looser h up r = record {
+-- ---- looser levels
+pub reads_looser : {names : List (List ℕ)} {k : ℕ} {level other : Level} {e : Expression} {t : List ℕ} → ((us : List Lexeme) (w : Written) → Stands level us w → Stands other us w) → ReadsAt names level k e t → ReadsAt names other k e t
+reads_looser up r = record {
   pieces = r.pieces;
   is = r.is;
   good = r.good;
   first = r.first;
-  stands = λ gap text ts a. loosened h up (r.stands gap text ts a);
+  stands = λ gap text ts a. loosened up (r.stands gap text ts a);
 }

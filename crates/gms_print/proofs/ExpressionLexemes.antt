@@ -146,13 +146,13 @@ call_stands {names = names} {k = k} {e = e} {text = text} {ts = ts} w o m t c f 
     single_sum : (t : Lexeme) (f : Frac) → t.sort ≡ Numeral f → Stands Sum (t ∷ []) (numeral t f)
     single_sum t f h = a_term (t ∷ []) (numeral t f) (a_factor (t ∷ []) (numeral t f) (a_primary (t ∷ []) (numeral t f) (a_numeral t f h)))
 
--- ---- looser levels, and more of them
-pub loosened : {names : List (List ℕ)} {k l : ℕ} {level other : Level} {e : Expression} {text : List ℕ} {ts : List Lexeme} → k ≤ l → ((us : List Lexeme) (w : Written) → Stands level us w → Stands other us w) → StandsFor names level k e text ts → StandsFor names other l e text ts
-loosened {ts = ts} h up s = record {
+-- ---- looser levels
+pub loosened : {names : List (List ℕ)} {k : ℕ} {level other : Level} {e : Expression} {text : List ℕ} {ts : List Lexeme} → ((us : List Lexeme) (w : Written) → Stands level us w → Stands other us w) → StandsFor names level k e text ts → StandsFor names other k e text ts
+loosened {ts = ts} up s = record {
   written = s.written;
   stands = up ts s.written s.stands;
   single = s.single;
   means = s.means;
   faultless = s.faultless;
-  shallow = λ n rest m. s.shallow n rest (omega (arith, h, m));
+  shallow = s.shallow;
 }

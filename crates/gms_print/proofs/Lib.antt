@@ -4,3 +4,4 @@ pub mod ExpressionReads
 pub mod ExpressionPieces
 pub mod ExpressionLexemes
 pub mod ExpressionForms
+pub mod Expressions
