@@ -1,5 +1,10 @@
+pub mod Cutting
+pub mod ExpressionForms
+pub mod ExpressionLexemes
+pub mod ExpressionPieces
+pub mod ExpressionReads
+pub mod Expressions
+pub mod Numerals
 pub mod Pieces
 pub mod Sound
 pub mod Taking
-pub mod Cutting
-pub mod Numerals
