@@ -7,7 +7,8 @@ use Rattle.emp_engine.specs.declared.outline.Outline.{Outline}
 use Rattle.emp_engine.specs.declared.fault_line.Fault.{Fault}
 use Rattle.emp_engine.specs.declared.fault_line.Fault.TheVariants.{NotYet, Unread, NoMemory, Wide}
 use Rattle.emp_engine.specs.declared.decide.Answer.{Answer}
-use Rattle.emp_engine.specs.Form.{Wanted, Says, IsForm}
+use Rattle.emp_engine.specs.Form.{Wanted, Says}
+use Rattle.emp_engine.specs.FirstForm.{IsForm}
 use Rattle.emp_engine.specs.Run.{Decides, other_form, point, none, wide}
 use Rattle.emp_engine.specs.Steps.{IsAnswer, IsFaultOf, AnswersFiles, FaultsFiles, IsCause}
 use Rattle.emp_engine.proofs.Telling.{told_join, told_both, told_map}

@@ -180,7 +180,7 @@ module _ (vars : List (List ℕ)) where
 pub record PairsSaid (o : Outline) (found : List Pair) (ts : List Token) (v : List Pair) : Type 0 where
   pub pairs : List Pair
   pub is : v ≡ found ++ pairs
-  pub says : All (λ p. (p.equation < length o.equations) × (p.variable < length o.variables)) pairs → AllWanted (written_pairs o pairs) ts
+  pub says : All (λ p. (p.equation < length o.equations) × (p.variable < length o.variables)) pairs → AllWanted (written_pairs o.variables o.equations pairs) ts
 
 pub said_pairs : (o : Outline) (found : List Pair) (ts : List Token) (v : List Pair) → pairs_of o.variables o.equations found ts ≡ Some v → PairsSaid o found ts v
 said_pairs o found [] v h = let a : found ≡ v = cc in record { pairs = []; is = sym a ∙ sym (append-nil found); says = λ d. tt }

@@ -28,13 +28,13 @@ got_found names k ws (Word w ∷ ts) p d h = record { left = ts; is = ap (λ j. 
 got_found names k ws (Numeral m ∷ ts) p d h = absurd h.0
 got_found names k ws (Mark s ∷ ts) p d h = absurd h.0
 
-got_pairs : (o : Outline) (ps found : List Pair) (ts : List Token) → AllPairs (λ a b. lower a ≢ lower b) o.variables → AllPairs (λ a b. lower a ≢ lower b) o.equations → All (λ p. (p.equation < length o.equations) × (p.variable < length o.variables)) ps → AllWanted (written_pairs o ps) ts → pairs_of o.variables o.equations found ts ≡ Some (found ++ ps)
+got_pairs : (o : Outline) (ps found : List Pair) (ts : List Token) → AllPairs (λ a b. lower a ≢ lower b) o.variables → AllPairs (λ a b. lower a ≢ lower b) o.equations → All (λ p. (p.equation < length o.equations) × (p.variable < length o.variables)) ps → AllWanted (written_pairs o.variables o.equations ps) ts → pairs_of o.variables o.equations found ts ≡ Some (found ++ ps)
 got_pairs o [] found [] v e d h = ap (λ x. Some x) (sym (append-nil found))
 got_pairs o [] found (t ∷ ts) v e d h = absurd h
 got_pairs o (p ∷ ps) found ts v e d h =
     let here = All-head (λ p. (p.equation < length o.equations) × (p.variable < length o.variables)) p ps d in
-    let a = got_found o.equations p.equation ((called (name_at o.variables p.variable)) ∷ written_pairs o ps) ts e here.0 h in
-    let b = got_found o.variables p.variable (written_pairs o ps) a.left v here.1 a.fits in
+    let a = got_found o.equations p.equation ((called (name_at o.variables p.variable)) ∷ written_pairs o.variables o.equations ps) ts e here.0 h in
+    let b = got_found o.variables p.variable (written_pairs o.variables o.equations ps) a.left v here.1 a.fits in
     pairs_of-more o.variables o.equations found ts a.left b.left p.equation p.variable a.is b.is ∙ got_pairs o ps (found ++ p ∷ []) b.left v e (All-tail (λ p. (p.equation < length o.equations) × (p.variable < length o.variables)) p ps d) b.fits ∙ ap (λ x. Some x) (append_assoc found (p ∷ []) ps)
 
 -- ---- the rest of the model
@@ -129,8 +129,8 @@ complete model info o s =
     let wanted = subst (λ zs. AllWanted zs model) (append_assoc (first ++ second) definitions (tail_written o.model) ∙ append_assoc first second (definitions ++ tail_written o.model)) s.model_tokens in
     let a = got_head o.variables o.equations model (written_definitions o.variables o.equations o.sums ++ tail_written o.model) sound.some some_equations wanted in
     let b = got_body o a.left v sound.defined (all_sums o.variables o.sums sound.sums) a.fits in
-    let c = past_called (codes "equilibrium") ((called (codes "vi")) ∷ written_pairs o o.pairs) info s.info_tokens in
-    let f = past_called (codes "vi") (written_pairs o o.pairs) c.left c.fits in
+    let c = past_called (codes "equilibrium") ((called (codes "vi")) ∷ written_pairs o.variables o.equations o.pairs) info s.info_tokens in
+    let f = past_called (codes "vi") (written_pairs o.variables o.equations o.pairs) c.left c.fits in
     let opened : opening_then info ≡ Some f.left = ap (option_and_then (λ us. after_called (codes "vi") us)) c.is ∙ f.is in
     let declared : All (λ p. (p.equation < length o.equations) × (p.variable < length o.variables)) o.pairs = λ k d h. let x = sound.pairs.declared k d h in (omega (arith, x.0, sound.square), x.1) in
     let g = got_pairs o o.pairs [] f.left v e declared f.fits in

@@ -5,7 +5,8 @@ use Rattle.emp_engine.specs.declared.outline.Outline.{Outline}
 use Rattle.emp_engine.specs.declared.token.Token.{Token}
 use Rattle.emp_engine.specs.declared.fault.ReadFault.{ReadFault}
 use Rattle.emp_engine.specs.declared.fault.ReadFault.TheVariants.{OtherForm}
-use Rattle.emp_engine.specs.Form.{Wanted, AllWanted, written_model, written_info, Says, IsForm}
+use Rattle.emp_engine.specs.Form.{Wanted, AllWanted, written_model, written_info, Says}
+use Rattle.emp_engine.specs.FirstForm.{SaysModel, IsForm}
 use Rattle.emp_engine.specs.TokenList.{IsTokenList}
 use Rattle.emp_engine.specs.SaysOutline.{SaysOutline}
 use Rattle.emp_engine.proofs.Lexing.{spells_one}

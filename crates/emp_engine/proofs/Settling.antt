@@ -13,7 +13,8 @@ use Rattle.emp_engine.specs.declared.outline.Outline.{Outline}
 use Rattle.emp_engine.specs.declared.fault_line.Fault.{Fault}
 use Rattle.emp_engine.specs.declared.fault_line.Fault.TheVariants.{NotYet, Unread, NoMemory, Wide}
 use Rattle.emp_engine.specs.declared.decide.Answer.{Answer}
-use Rattle.emp_engine.specs.Form.{IsSound, IsForm}
+use Rattle.emp_engine.specs.Form.{IsSound}
+use Rattle.emp_engine.specs.FirstForm.{IsForm}
 use Rattle.emp_engine.specs.Meaning.{row_of, rows_of}
 use Rattle.emp_engine.specs.Report.{equilibrium_report, missing_report}
 use Rattle.emp_engine.specs.Run.{Decides, point, none, wide}

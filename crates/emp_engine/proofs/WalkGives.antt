@@ -11,7 +11,7 @@ use Rattle.emp_rows.proofs.WalkLaws.{walk_vanishes, walk_refutes}
 use Rattle.emp_engine.specs.declared.outline.Outline.{Outline}
 use Rattle.emp_engine.specs.declared.outline.Term.{Term}
 use Rattle.emp_engine.specs.declared.outline.Pair.{Pair}
-use Rattle.emp_engine.specs.Form.{IsForm}
+use Rattle.emp_engine.specs.FirstForm.{IsForm}
 use Rattle.emp_engine.specs.Meaning.{free_variable, product_cells, sum_cells, model_of, annot_of, row_of, rows_of}
 use Rattle.emp_engine.specs.Report.{equilibrium_report}
 use Rattle.emp_engine.specs.Run.{ReportsEquilibrium, HasNoEquilibrium}

@@ -169,12 +169,16 @@ written_model o =
     (called (codes "variables")) ∷ written_names o.variables ++ (symbol Semicolon) ∷ (called (codes "equations")) ∷ written_names o.equations ++ (symbol Semicolon) ∷ written_definitions o.variables o.equations o.sums
     ++ (called (codes "model")) ∷ (spelled o.model) ∷ (symbol Slash) ∷ (called (codes "all")) ∷ (symbol Slash) ∷ (symbol Semicolon) ∷ (called (codes "solve")) ∷ (called o.model) ∷ (called (codes "using")) ∷ (called (codes "emp")) ∷ (symbol Semicolon) ∷ []
 
-abbrev pub written_pairs : Outline → List Pair → List Wanted
-written_pairs o [] = []
-written_pairs o (p ∷ ps) = (called (name_at o.equations p.equation)) ∷ (called (name_at o.variables p.variable)) ∷ written_pairs o ps
+abbrev pub written_pairs : List (List ℕ) → List (List ℕ) → List Pair → List Wanted
+written_pairs vars equations [] = []
+written_pairs vars equations (p ∷ ps) = (called (name_at equations p.equation)) ∷ (called (name_at vars p.variable)) ∷ written_pairs vars equations ps
+
+-- `equilibrium vi` and the pairs
+abbrev pub written_pairing : List (List ℕ) → List (List ℕ) → List Pair → List Wanted
+written_pairing vars equations ps = (called (codes "equilibrium")) ∷ (called (codes "vi")) ∷ written_pairs vars equations ps
 
 abbrev pub written_info : Outline → List Wanted
-written_info o = (called (codes "equilibrium")) ∷ (called (codes "vi")) ∷ written_pairs o o.pairs
+written_info o = written_pairing o.variables o.equations o.pairs
 
 -- ---- when an outline is sound
 abbrev pub keywords : List (List ℕ)
@@ -238,9 +242,3 @@ pub record Says (wanted : List Wanted) (text : List ℕ) : Type 0 where
   pub tokens : List Token
   pub spelled : Spells tokens text
   pub are_wanted : AllWanted wanted tokens
-
--- the two texts are of the first form and say the outline
-pub record IsForm (model_text info_text : List ℕ) (o : Outline) : Type 0 where
-  pub sound : IsSound o
-  pub model : Says (written_model o) model_text
-  pub info : Says (written_info o) info_text

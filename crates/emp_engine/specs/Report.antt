@@ -1,8 +1,13 @@
 -- The bytes of reports and fault lines. Each line ends with LF.
-use Rattle.std.specs.Prelude.{ℕ, zero, suc, ℤ, pos, Bool, true, false, cond, List, [], ◌∷◌, ◌++◌, codes, decimal}
+use Rattle.std.specs.Prelude.{ℕ, zero, suc, ℤ, pos, Bool, true, false, cond, List, [], ◌∷◌, ◌++◌, take, codes, decimal}
 use Rattle.std.specs.Fmt.{signed_decimal}
 use Rattle.emp_num.specs.FracText.{fraction_text}
 use Rattle.emp_num.specs.declared.frac.Frac.{Frac}
+use Rattle.emp_ast.specs.declared.tree.Place.{Place}
+use Rattle.emp_lex.specs.declared.fault.LexFault.{LexFault}
+use Rattle.emp_lex.specs.declared.fault.LexFault.TheVariants.{BadByte, LongName, OpenBlock, Dollar, Number, NoMemory as LexNoMemory}
+use Rattle.gms_read.specs.declared.fault.ModelFault.{ModelFault}
+use Rattle.gms_read.specs.declared.fault.ModelFault.TheVariants.{Lex, Syntax, Undeclared, Twice, Discrete, Attribute, Function, TooLarge, Undefined, BoundsCross, NoMemory}
 
 -- `NAME = F` for each variable
 abbrev pub point_lines : List (List ℕ) → List Frac → List ℕ
@@ -36,3 +41,35 @@ no_memory_line = codes "error 21: no memory\n"
 
 abbrev pub wide_line : ℕ → List ℕ
 wide_line pivot = codes "error 19: wide at node 1 pivot " ++ decimal pivot ++ codes "\n"
+
+abbrev pub too_long_line : ℕ → List ℕ
+too_long_line k = codes "error 13: file " ++ decimal k ++ codes " is longer than 1048576 bytes\n"
+
+-- a fault of the model text at a place
+abbrev pub model_line_at : List ℕ → Place → List ℕ
+model_line_at word p = codes "error 14: model " ++ decimal p.line ++ codes ":" ++ decimal p.column ++ codes " " ++ word ++ codes "\n"
+
+-- a fault of the model by the name of a variable or an equation; a name has at most 63 bytes
+abbrev pub model_line_of : List ℕ → List ℕ → List ℕ
+model_line_of word name = codes "error 14: model " ++ word ++ codes " " ++ take 63 name ++ codes "\n"
+
+abbrev pub lex_line : LexFault → List ℕ
+lex_line (BadByte p) = model_line_at (codes "bad byte") p
+lex_line (LongName p) = model_line_at (codes "long name") p
+lex_line (OpenBlock p) = model_line_at (codes "open block") p
+lex_line (Dollar p) = model_line_at (codes "dollar line") p
+lex_line (Number p) = model_line_at (codes "number") p
+lex_line LexNoMemory = no_memory_line
+
+abbrev pub model_line : ModelFault → List ℕ
+model_line (Lex f) = lex_line f
+model_line (Syntax p) = model_line_at (codes "syntax") p
+model_line (Undeclared p) = model_line_at (codes "undeclared") p
+model_line (Twice p) = model_line_at (codes "twice") p
+model_line (Discrete p) = model_line_at (codes "discrete") p
+model_line (Attribute p) = model_line_at (codes "attribute") p
+model_line (Function p) = model_line_at (codes "function") p
+model_line (TooLarge p) = model_line_at (codes "too large") p
+model_line (Undefined e name) = model_line_of (codes "undefined") name
+model_line (BoundsCross v name) = model_line_of (codes "bounds cross") name
+model_line NoMemory = no_memory_line

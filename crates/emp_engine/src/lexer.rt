@@ -10,8 +10,8 @@ use crate::token::{Sign, Token};
 use emp_list::name::Name;
 use std::alloc::Global;
 
-// The most bytes of a text.
-const LONGEST_TEXT: usize = 1048576;
+/// The most bytes of a text.
+pub const LONGEST_TEXT: usize = 1048576;
 
 // The most bytes of a name.
 const LONGEST_NAME: usize = 63;
@@ -87,7 +87,7 @@ fn begins_with_letter(run: &[u8]) -> bool
 }
 
 /// The value of a run of digits, if it is not too large.
-fn value_of(run: &[u8]) -> Option<u64>
+pub fn value_of(run: &[u8]) -> Option<u64>
     ensures { result ≡ value_from 0 run.now }
 {
     let mut value: u64 = 0;

@@ -2,11 +2,13 @@
 #![tactic(auto)]
 
 pub mod decide;
+pub mod essential;
 pub mod fault;
 pub mod fault_line;
 pub mod laws;
 pub mod lexer;
 pub mod outline;
+pub mod pairing;
 pub mod parser;
 pub mod reader;
 pub mod report;

@@ -3,7 +3,7 @@ ghost use Rattle.std.specs.Prelude.{◌≡◌, ◌+◌, ◌<◌, ◌≤◌, [], 
 ghost use Rattle.emp_engine.specs.Parsing.{Reads, Skips, Sees, multiple_then, find_then, same_name, find_name, after_called, after_sign, after_zero, name_then, separator_then, names_then, lead_then, product_then, joint_then, sum_then, definition_then, definitions_then, head_then, all_then, solve_then, tail_then, opening_then, pairs_of, Gives, body_of, info_of, outline_of};
 ghost use Rattle.emp_engine.specs.SaysOutline.{SaysOutline};
 
-mod sound;
+pub mod sound;
 
 use crate::fault::ReadFault;
 use crate::outline::{Outline, Pair, Product, Term};
@@ -14,7 +14,7 @@ use sound::is_sound;
 use std::alloc::Global;
 
 /// Whether two names are equal without case.
-fn is_same_name(left: &[u8], right: &[u8]) -> bool
+pub fn is_same_name(left: &[u8], right: &[u8]) -> bool
     ensures { result ≡ same_name left.now right.now }
 {
     left.eq_ignore_ascii_case(right)
@@ -23,7 +23,7 @@ fn is_same_name(left: &[u8], right: &[u8]) -> bool
 /// The place of a name, or the number of names where it is missing.
 #[tactic(auto, using(crate::proofs::ParsingSteps::finding))]
 fn find(names: &[Name], word: &[u8]) -> u32
-    requires few { length names.now ≤ 32 }
+    requires few { length names.now ≤ 512 }
     ensures { result ≡ find_name names.now word.now }
 {
     let mut place = 0;
@@ -304,7 +304,7 @@ fn opening(tokens: &[Token], at: usize) -> Result<usize, ReadFault>
 
 /// The place among the names of the name that stands there.
 fn find_at(tokens: &[Token], at: usize, names: &[Name]) -> Result<(u32, usize), ReadFault>
-    requires few { length names.now ≤ 32 }
+    requires few { length names.now ≤ 512 }
     ensures reads { Sees tokens.now result (find_then names.now (drop at tokens.now)) }
     ensures ahead { IfOk result (λ p. p.1 ≡ at + 1) }
 {
@@ -325,8 +325,8 @@ fn pairs(
     variables: &[Name],
     equations: &[Name],
 ) -> Result<Seq<Pair>, ReadFault>
-    requires few_variables { length variables.now ≤ 32 }
-    requires few_equations { length equations.now ≤ 32 }
+    requires few_variables { length variables.now ≤ 512 }
+    requires few_equations { length equations.now ≤ 512 }
     ensures { MatchResult result (λ ps. pairs_of variables.now equations.now [] (drop at tokens.now) ≡ Some ps) (λ e. e ≡ ReadFault.OtherForm → pairs_of variables.now equations.now [] (drop at tokens.now) ≡ None) }
 {
     let mut found = Seq::new(alloc);
@@ -361,14 +361,14 @@ fn body(
 }
 
 /// The pairs that the second text says.
-fn info(
+pub fn info(
     alloc: Global,
     tokens: &[Token],
     variables: &[Name],
     equations: &[Name],
 ) -> Result<Seq<Pair>, ReadFault>
-    requires few_variables { length variables.now ≤ 32 }
-    requires few_equations { length equations.now ≤ 32 }
+    requires few_variables { length variables.now ≤ 512 }
+    requires few_equations { length equations.now ≤ 512 }
     ensures { Gives result (info_of variables.now equations.now tokens.now) }
 {
     let at = opening(tokens, 0)?;

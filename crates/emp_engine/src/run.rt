@@ -1,43 +1,49 @@
 //! The top call.
-ghost use Rattle.std.specs.Prelude.{◌≡◌, ◌⊎◌, ◌≤◌, ℕ, List, map, string_bytes, IfOk, IfErr};
-ghost use Rattle.emp_desk.specs.Desk.{Told, KeepsAll, KeepsFiles, Loads, loads, Rose, NoneFalls, output};
-ghost use Rattle.emp_engine.specs.Run.{IsPlain, SaysEquilibrium, ShowsNone, IsWhole, SaysDue, SaysPartOfDue, SomeLoadRose, NothingRose, AsksSolve};
-ghost use Rattle.emp_engine.specs.Steps.{AnswersFiles, IsCause, SayEnds, Ends};
+ghost use Rattle.std.specs.Prelude.{◌≡◌, ◌⊎◌, ◌≤◌, ℕ, List, map, length, string_bytes, IfOk, IfErr};
+ghost use Rattle.emp_desk.specs.Desk.{Told, KeepsAll, KeepsFiles, Rose, NoneFalls, output};
+ghost use Rattle.emp_engine.specs.Run.{Asks, IsPlain, IsSolve, IsPrint, SaysEquilibrium, ShowsNone, SaysCanonical, ShowsModelFault, IsWhole, IsComplete, SaysDue, SaysPartOfDue, SomeLoadRose, NothingRose};
+ghost use Rattle.emp_engine.specs.Steps.{AnswersFiles, IsCause, IsFile, IsUnloaded, SayEnds, Ends};
 
-use crate::decide::{Answer, decide};
+use crate::decide::{Answer, answer_texts};
 use crate::fault_line::{Fault, Input};
-use crate::words::asked;
+use crate::lexer::LONGEST_TEXT;
+use crate::words::{Command, asked};
 use emp_desk::desk::{Desk, LoadFault, StoreFault};
 use std::alloc::Global;
 
-/// A file of more bytes than this is not of the first form.
-pub const LONGEST_TEXT: usize = 1048576;
-
-/// The bytes of a file, one more than the longest text has at most.
+/// The bytes of a file, unless it is too long.
 fn load<D: Desk>(alloc: Global, name: &str, input: Input, desk: &mut D) -> Result<Vec<u8>, Fault>
-    ensures bytes { IfOk result (λ v. Told (Loads name.now 1048577 v.items) (D.tells desk.old) (D.tells desk.new)) }
+    ensures bytes { IfOk result (λ v. Told (IsFile name.now v.items) (D.tells desk.old) (D.tells desk.new)) }
+    ensures short { IfOk result (λ v. length v.items ≤ 1048576) }
     ensures keeps { Told KeepsAll (D.tells desk.old) (D.tells desk.new) }
-    ensures fault { IfErr result (λ f. (f ≡ Fault.NoMemory) ⊎ ((f ≡ Fault.Unread input) × Rose (D.faults desk.old (loads name.now)) (D.faults desk.new (loads name.now)))) }
+    ensures fault { IfErr result (IsUnloaded name.now input (D.faults desk.old) (D.faults desk.new) (D.tells desk.old) (D.tells desk.new)) }
     ensures none_falls { NoneFalls (D.faults desk.old) (D.faults desk.new) }
 {
     match desk.load(alloc, name, LONGEST_TEXT + 1) {
+        Ok(bytes) if bytes.len() > LONGEST_TEXT => Err(Fault::TooLong(input)),
         Ok(bytes) => Ok(bytes),
         Err(LoadFault::Failed) => Err(Fault::Unread(input)),
         Err(LoadFault::NoMemory) => Err(Fault::NoMemory),
     }
 }
 
-/// What is decided over the two files.
-fn answer<D: Desk>(alloc: Global, model: &str, info: &str, desk: &mut D) -> Result<Answer, Fault>
+/// What the command answers over the two files.
+fn answer_files<D: Desk>(
+    alloc: Global,
+    command: Command,
+    model: &str,
+    info: &str,
+    desk: &mut D,
+) -> Result<Answer, Fault>
     ensures status { IfOk result (λ a. (a.status ≡ 0) ⊎ (a.status ≡ 1)) }
-    ensures answer { IfOk result (λ a. Told (AnswersFiles model.now info.now a) (D.tells desk.old) (D.tells desk.new)) }
-    ensures cause { IfErr result (IsCause model.now info.now (D.faults desk.old) (D.faults desk.new) (D.tells desk.old) (D.tells desk.new)) }
+    ensures answer { IfOk result (λ a. Told (AnswersFiles command model.now info.now a) (D.tells desk.old) (D.tells desk.new)) }
+    ensures cause { IfErr result (IsCause command model.now info.now (D.faults desk.old) (D.faults desk.new) (D.tells desk.old) (D.tells desk.new)) }
     ensures keeps { Told KeepsAll (D.tells desk.old) (D.tells desk.new) }
     ensures none_falls { NoneFalls (D.faults desk.old) (D.faults desk.new) }
 {
     let model_text = load(alloc, model, Input::Model, desk)?;
     let info_text = load(alloc, info, Input::Annotation, desk)?;
-    decide(alloc, model_text.as_slice(), info_text.as_slice())
+    answer_texts(alloc, command, model_text.as_slice(), info_text.as_slice())
 }
 
 /// Says the text, and gives the status unless the say fails.
@@ -52,13 +58,19 @@ fn say<D: Desk>(desk: &mut D, text: &[u8], status: u8) -> u8
     }
 }
 
-/// Solves the two files and says the answer.
-fn solve<D: Desk>(alloc: Global, model: &str, info: &str, desk: &mut D) -> u8
-    ensures { (words : List (List ℕ)) → AsksSolve words model.now info.now → Ends words (D.faults desk.old) (D.faults desk.new) (D.tells desk.old) (D.tells desk.new) result }
+/// Says what the command answers over the two files.
+fn carry_out<D: Desk>(
+    alloc: Global,
+    command: Command,
+    model: &str,
+    info: &str,
+    desk: &mut D,
+) -> u8
+    ensures { (words : List (List ℕ)) → Asks command words model.now info.now → Ends words (D.faults desk.old) (D.faults desk.new) (D.tells desk.old) (D.tells desk.new) result }
 {
-    match answer(alloc, model, info, desk) {
+    match answer_files(alloc, command, model, info, desk) {
         Ok(answer) => say(desk, answer.text.as_slice(), answer.status),
-        Err(fault) => say(desk, fault.line().as_bytes(), fault.status()),
+        Err(fault) => say(desk, fault.line().as_slice(), fault.status()),
     }
 }
 
@@ -69,7 +81,7 @@ fn refuse_words<D: Desk>(desk: &mut D) -> u8
 {
     match say(
         desk,
-        Fault::NotYet.line().as_bytes(),
+        Fault::NotYet.line().as_slice(),
         Fault::NotYet.status(),
     ) {
         21 => Fault::NotYet.status(),
@@ -80,12 +92,15 @@ fn refuse_words<D: Desk>(desk: &mut D) -> u8
 /// Does what the words ask, over a desk, and answers the exit status.
 ///
 /// `solve MODEL INFO` loads the two files, decides whether what they stand for has an equilibrium, and says the report.
+/// `print MODEL INFO` says the canonical texts of the model and of the annotation.
 /// The statuses and the lines that go with them stand in `docs/FORMATS.md`; the words of the clauses in `specs/Run.antt`
 /// and `docs/DEFINITIONS.md`. After a refusal only its line was said, or a prefix of it where the say failed, and no file
 /// has changed.
 pub fn run<D: Desk>(alloc: Global, words: &[String], desk: &mut D) -> u8
-    ensures equilibrium { result ≡ 0 → Told (SaysEquilibrium (map string_bytes words.now)) (D.tells desk.old) (D.tells desk.new) }
+    ensures equilibrium { IsSolve (map string_bytes words.now) → result ≡ 0 → Told (SaysEquilibrium (map string_bytes words.now)) (D.tells desk.old) (D.tells desk.new) }
     ensures none { result ≡ 1 → Told (ShowsNone (map string_bytes words.now)) (D.tells desk.old) (D.tells desk.new) }
+    ensures canonical { IsPrint (map string_bytes words.now) → result ≡ 0 → Told (SaysCanonical (map string_bytes words.now)) (D.tells desk.old) (D.tells desk.new) }
+    ensures model_fault { result ≡ 14 → Told (ShowsModelFault (map string_bytes words.now)) (D.tells desk.old) (D.tells desk.new) }
     ensures due { IsWhole result → Told (SaysDue (map string_bytes words.now) (D.faults desk.old) (D.faults desk.new) result) (D.tells desk.old) (D.tells desk.new) }
     ensures unread { result ≡ 11 → SomeLoadRose (map string_bytes words.now) (D.faults desk.old) (D.faults desk.new) }
     ensures unsaid { result ≡ 12 → Rose (D.faults desk.old output) (D.faults desk.new output) }
@@ -93,10 +108,10 @@ pub fn run<D: Desk>(alloc: Global, words: &[String], desk: &mut D) -> u8
     ensures words { (IsPlain (map string_bytes words.now) → ⊥) → (result ≡ 30) ⊎ (result ≡ 12) }
     ensures files { Told KeepsFiles (D.tells desk.old) (D.tells desk.new) }
     ensures answers { IsWhole result ⊎ ((result ≡ 12) ⊎ (result ≡ 21)) }
-    ensures complete { NothingRose (map string_bytes words.now) (D.faults desk.old) (D.faults desk.new) → (result ≡ 21) ⊎ ((result ≡ 0) ⊎ ((result ≡ 1) ⊎ ((result ≡ 19) ⊎ (result ≡ 30)))) }
+    ensures complete { NothingRose (map string_bytes words.now) (D.faults desk.old) (D.faults desk.new) → IsComplete result }
 {
     match asked(words) {
-        Some((model, info)) => solve(alloc, model, info, desk),
+        Some((command, model, info)) => carry_out(alloc, command, model, info, desk),
         None => refuse_words(desk),
     }
 }

@@ -3,3 +3,4 @@
 //! What the canonical text of a model is stands in `specs/Canonical.antt`, and that it stands for the same model in
 //! `specs/ReadsBack.antt`.
 #![tactic(auto)]
+pub mod print;

@@ -8,6 +8,8 @@ pub mod draft;
 pub mod fault;
 pub mod item;
 pub mod lexeme;
+pub mod lexemes;
 pub mod parse;
 pub mod perform;
+pub mod read;
 pub mod table;

@@ -56,7 +56,7 @@ fn is_one_of(name: &[u8], words: &[&str]) -> bool
 }
 
 /// Whether a name is no keyword.
-fn is_no_keyword(name: &[u8]) -> bool
+pub fn is_no_keyword(name: &[u8]) -> bool
     ensures { result ≡ name_fits name.now }
 {
     let words: [&str; 26] = KEYWORDS;
@@ -194,7 +194,7 @@ fn is_pair_fresh(pair: Pair, others: &[Pair]) -> bool
 
 /// Whether the pairs have each equation and each variable once.
 #[tactic(auto, using(crate::proofs::ParsingTests::freshness))]
-fn are_pairs(pairs: &[Pair], count: usize) -> bool
+pub fn are_pairs(pairs: &[Pair], count: usize) -> bool
     ensures { result ≡ pairs_fit count pairs.now }
 {
     if pairs.len() != count {
