@@ -1,77 +1,102 @@
 -- Texts that are loaded with one byte more than the longest has.
-use Rattle.std.proofs.Common.{◌≡◌, ℕ, ◌<◌, ◌≤◌, List, take, length, Option, Result, Ok, Err, arith, sym, ap, subst, subst₂, ◌∙◌}
+use Rattle.std.proofs.Common.{◌≡◌, ℕ, ◌<◌, ◌≤◌, ◌⊎◌, inl, inr, List, take, length, Option, Result, Ok, Err, arith, refl, sym, ap, subst, subst₂, ◌∙◌}
 use Rattle.std.specs.Result.{MatchResult, IfOk, IfErr}
 use Rattle.std.proofs.lemmas.List.{take_all, length-take}
-use Rattle.emp_desk.specs.Desk.{Place, Contents, Told, KeepsAll, Loads}
-use Rattle.emp_engine.specs.declared.outline.Outline.{Outline}
+use Rattle.emp_desk.specs.Desk.{Place, loads, Contents, Told, KeepsAll, Loads, Rose, NoneFalls}
+use Rattle.emp_engine.specs.declared.words.Command.{Command}
+use Rattle.emp_engine.specs.declared.fault_line.Input.{Input}
+use Rattle.emp_engine.specs.declared.fault_line.Input.TheVariants.{Model, Annotation}
 use Rattle.emp_engine.specs.declared.fault_line.Fault.{Fault}
-use Rattle.emp_engine.specs.declared.fault_line.Fault.TheVariants.{NotYet, Unread, NoMemory, Wide}
+use Rattle.emp_engine.specs.declared.fault_line.Fault.TheVariants.{NotYet, Unread, TooLong, BadModel, NoMemory, Wide}
 use Rattle.emp_engine.specs.declared.decide.Answer.{Answer}
-use Rattle.emp_engine.specs.Form.{Wanted, Says}
-use Rattle.emp_engine.specs.FirstForm.{IsForm}
-use Rattle.emp_engine.specs.Run.{Decides, other_form, point, none, wide}
-use Rattle.emp_engine.specs.Steps.{IsAnswer, IsFaultOf, AnswersFiles, FaultsFiles, IsCause}
-use Rattle.emp_engine.proofs.Telling.{told_join, told_both, told_map}
+use Rattle.emp_engine.specs.Run.{IsLong}
+use Rattle.emp_engine.specs.Steps.{IsAnswer, IsFaultOf, IsFile, IsLongFile, IsUnloaded, AreShort, AnswersFiles, FaultsFiles, IsLongSecond, IsCause}
+use Rattle.emp_engine.proofs.Telling.{told_join, told_both, told_map, rose_first, rose_second}
 
-module _ (most : ℕ) (above : 1048576 < most) where
-  uncut : (a : List ℕ) → length (take most a) ≤ 1048576 → take most a ≡ a
-  uncut a h = take_all most a (omega (arith, length-take most a))
+-- ---- one file
+module _ (most : ℕ) (above : 1048576 < most) (name bytes : List ℕ) (t0 t1 : Option Contents) (loaded : Told (Loads name most bytes) t0 t1) where
+  whole : (a : List ℕ) → bytes ≡ take most a → length bytes ≤ 1048576 → a ≡ bytes
+  whole a e h = sym (e ∙ take_all most a (let k = length-take most a in let l = ap length e in omega arith))
 
-  short_stays : (a : List ℕ) → length a ≤ 1048576 → take most a ≡ a
-  short_stays a h = take_all most a (omega arith)
+  pub file_is : length bytes ≤ 1048576 → Told (IsFile name bytes) t0 t1
+  file_is h = told_map (Loads name most bytes) (IsFile name bytes) (λ x y l. whole (x.holds name) l.bytes_are h) t0 t1 loaded
 
-  says_whole : (w : List Wanted) (a : List ℕ) → Says w (take most a) → Says w a
-  says_whole w a h = subst (Says w) (uncut a h.short) h
+  long : (a : List ℕ) → bytes ≡ take most a → 1048576 < length bytes → IsLong a
+  long a e h = let k = length-take most a in let l = ap length e in omega arith
 
-  says_cut : (w : List Wanted) (a : List ℕ) → Says w a → Says w (take most a)
-  says_cut w a h = subst (Says w) (sym (short_stays a h.short)) h
+  pub file_long : 1048576 < length bytes → Told (IsLongFile name) t0 t1
+  file_long h = told_map (Loads name most bytes) (IsLongFile name) (λ x y l. long (x.holds name) l.bytes_are h) t0 t1 loaded
 
-  form_whole : (a b : List ℕ) (o : Outline) → IsForm (take most a) (take most b) o → IsForm a b o
-  form_whole a b o h = record { sound = h.sound; model = says_whole _ a h.model; info = says_whole _ b h.info }
+-- ---- two files
+not_long : (a bytes : List ℕ) → a ≡ bytes → length bytes ≤ 1048576 → IsLong a → ⊥
+not_long a bytes e h l = let k = ap length e in omega arith
 
-  form_cut : (a b : List ℕ) (o : Outline) → IsForm a b o → IsForm (take most a) (take most b) o
-  form_cut a b o h = record { sound = h.sound; model = says_cut _ a h.model; info = says_cut _ b h.info }
+-- the model file was not loaded
+pub first_cause : (c : Command) (m i : List ℕ) (f0 f1 : Place → ℕ) (t0 t1 : Option Contents) (f : Fault) → IsUnloaded m Model f0 f1 t0 t1 f → IsCause c m i f0 f1 t0 t1 f
+first_cause c m i f0 f1 t0 t1 NotYet h = absurd h
+first_cause c m i f0 f1 t0 t1 (Unread Model) h = h.1
+first_cause c m i f0 f1 t0 t1 (Unread Annotation) h = let e = h.0 in cc
+first_cause c m i f0 f1 t0 t1 (TooLong Model) h = h.1
+first_cause c m i f0 f1 t0 t1 (TooLong Annotation) h = let e = h.0 in cc
+first_cause c m i f0 f1 t0 t1 (BadModel f) h = absurd h
+first_cause c m i f0 f1 t0 t1 NoMemory h = tt
+first_cause c m i f0 f1 t0 t1 (Wide pivot) h = absurd h
 
-  -- what is decided over the bytes that were loaded is decided over the files
-  pub decides_whole : (a b : List ℕ) (status : ℕ) (text : List ℕ) → Decides (take most a) (take most b) status text → Decides a b status text
-  decides_whole a b status text (other_form h) = other_form (λ o f. h o (form_cut a b o f))
-  decides_whole a b status text (point o n d fs form walk at) = point o n d fs (form_whole a b o form) walk at
-  decides_whole a b status text (none o n fs form walk) = none o n fs (form_whole a b o form) walk
-  decides_whole a b status text (wide o n form walk) = wide o n (form_whole a b o form) walk
+module _ (c : Command) (m i model_text : List ℕ) (t0 t1 : Option Contents) (file_m : Told (IsFile m model_text) t0 t1) (short_m : length model_text ≤ 1048576) (keep_m : Told KeepsAll t0 t1) where
+  abbrev Model_loaded : Contents → Contents → Type 0
+  Model_loaded x y = IsFile m model_text x y × KeepsAll x y
 
-  module _ (m i model_text info_text : List ℕ) (t0 t1 t2 : Option Contents) (load_m : Told (Loads m most model_text) t0 t1) (keep_m : Told KeepsAll t0 t1) (load_i : Told (Loads i most info_text) t1 t2) where
-    abbrev AreLoaded : Contents → Contents → Type 0
-    AreLoaded x y = (model_text ≡ take most (x.holds m)) × (info_text ≡ take most (x.holds i))
+  model_loaded : Told Model_loaded t0 t1
+  model_loaded = told_both (IsFile m model_text) KeepsAll Model_loaded (λ x y p q. (p, q)) t0 t1 file_m keep_m
+
+  -- the annotation file was not loaded
+  pub second_cause : (f0 f1 f2 : Place → ℕ) (t2 : Option Contents) (f : Fault) → NoneFalls f0 f1 → IsUnloaded i Annotation f1 f2 t1 t2 f → IsCause c m i f0 f2 t0 t2 f
+  second_cause f0 f1 f2 t2 NotYet k h = absurd h
+  second_cause f0 f1 f2 t2 (Unread Model) k h = let e = h.0 in cc
+  second_cause f0 f1 f2 t2 (Unread Annotation) k h = rose_second (f0 (loads i)) (f1 (loads i)) (f2 (loads i)) h.1 (k (loads i))
+  second_cause f0 f1 f2 t2 (TooLong Model) k h = let e = h.0 in cc
+  second_cause f0 f1 f2 t2 (TooLong Annotation) k h =
+      told_join Model_loaded (IsLongFile i) (IsLongSecond m i) (λ x y z p l. record { model = not_long (x.holds m) model_text p.0 short_m; info = subst IsLong (p.1.files i) l }) t0 t1 t2 model_loaded h.1
+  second_cause f0 f1 f2 t2 (BadModel f) k h = absurd h
+  second_cause f0 f1 f2 t2 NoMemory k h = tt
+  second_cause f0 f1 f2 t2 (Wide pivot) k h = absurd h
+
+  module _ (info_text : List ℕ) (t2 : Option Contents) (file_i : Told (IsFile i info_text) t1 t2) (short_i : length info_text ≤ 1048576) where
+    record AreLoaded (x y : Contents) : Type 0 where
+      short : AreShort m i x
+      model : x.holds m ≡ model_text
+      info : x.holds i ≡ info_text
 
     are_loaded : Told AreLoaded t0 t2
     are_loaded =
-        told_join (λ x y. Loads m most model_text x y × KeepsAll x y) (Loads i most info_text) AreLoaded (λ x y z p q. (p.0.bytes_are, q.bytes_are ∙ ap (take most) (p.1.files i))) t0 t1 t2
-        (told_both (Loads m most model_text) KeepsAll (λ x y. Loads m most model_text x y × KeepsAll x y) (λ x y p q. (p, q)) t0 t1 load_m keep_m)
-        load_i
+        told_join Model_loaded (IsFile i info_text) AreLoaded (λ x y z p q. record {
+          short = record { model = not_long (x.holds m) model_text p.0 short_m; info = not_long (x.holds i) info_text (sym (p.1.files i) ∙ q) short_i };
+          model = p.0;
+          info = sym (p.1.files i) ∙ q;
+        }) t0 t1 t2 model_loaded file_i
 
-    over_files : (status : ℕ) (text : List ℕ) → Decides model_text info_text status text → (x y : Contents) → AreLoaded x y → Decides (x.holds m) (x.holds i) status text
-    over_files status text h x y p = decides_whole (x.holds m) (x.holds i) status text (subst₂ (λ a b. Decides a b status text) p.0 p.1 h)
+    pub answer_told : (a : Answer) → IsAnswer c model_text info_text a → Told (AnswersFiles c m i a) t0 t2
+    answer_told a h = told_map AreLoaded (AnswersFiles c m i a) (λ x y l. record { short = l.short; answer = subst₂ (λ u v. IsAnswer c u v a) (sym l.model) (sym l.info) h }) t0 t2 are_loaded
 
-    answers : (r : Result Answer Fault) → MatchResult r (IsAnswer model_text info_text) (IsFaultOf model_text info_text) → IfOk r (λ a. Told (AnswersFiles m i a) t0 t2)
-    answers (Ok a) h = told_map AreLoaded (AnswersFiles m i a) (λ x y p. record { status = h.status; decided = over_files a.status a.text.items h.decided x y p }) t0 t2 are_loaded
-    answers (Err f) h = tt
+    fault_told : (f : Fault) → IsFaultOf c model_text info_text f → Told (FaultsFiles c m i f) t0 t2
+    fault_told f h = told_map AreLoaded (FaultsFiles c m i f) (λ x y l. record { short = l.short; fault = subst₂ (λ u v. IsFaultOf c u v f) (sym l.model) (sym l.info) h }) t0 t2 are_loaded
 
-    fault_cause : (f0 f2 : Place → ℕ) (f : Fault) → IsFaultOf model_text info_text f → IsCause m i f0 f2 t0 t2 f
-    fault_cause f0 f2 NotYet h = told_map AreLoaded (FaultsFiles m i NotYet) (λ x y p. over_files _ _ h x y p) t0 t2 are_loaded
-    fault_cause f0 f2 (Wide pivot) h = told_map AreLoaded (FaultsFiles m i (Wide pivot)) (λ x y p. over_files _ _ h x y p) t0 t2 are_loaded
-    fault_cause f0 f2 NoMemory h = tt
+    fault_cause : (f0 f2 : Place → ℕ) (f : Fault) → IsFaultOf c model_text info_text f → IsCause c m i f0 f2 t0 t2 f
+    fault_cause f0 f2 NotYet h = fault_told NotYet h
     fault_cause f0 f2 (Unread file) h = absurd h
+    fault_cause f0 f2 (TooLong file) h = absurd h
+    fault_cause f0 f2 (BadModel f) h = fault_told (BadModel f) h
+    fault_cause f0 f2 NoMemory h = tt
+    fault_cause f0 f2 (Wide pivot) h = fault_told (Wide pivot) h
 
-    faults : (f0 f2 : Place → ℕ) (r : Result Answer Fault) → MatchResult r (IsAnswer model_text info_text) (IsFaultOf model_text info_text) → IfErr r (IsCause m i f0 f2 t0 t2)
-    faults f0 f2 (Ok a) h = tt
-    faults f0 f2 (Err f) h = fault_cause f0 f2 f h
+    module _ (a b : List ℕ) (a_is : a ≡ model_text) (b_is : b ≡ info_text) where
+      over : (r : Result Answer Fault) → MatchResult r (IsAnswer c a b) (IsFaultOf c a b) → MatchResult r (IsAnswer c model_text info_text) (IsFaultOf c model_text info_text)
+      over r h = subst₂ (λ x y. MatchResult r (IsAnswer c x y) (IsFaultOf c x y)) a_is b_is h
 
-    module _ (a b : List ℕ) (a_is : a ≡ model_text) (b_is : b ≡ info_text) (r : Result Answer Fault) (h : MatchResult r (IsAnswer a b) (IsFaultOf a b)) where
-      decided_over : MatchResult r (IsAnswer model_text info_text) (IsFaultOf model_text info_text)
-      decided_over = subst₂ (λ x y. MatchResult r (IsAnswer x y) (IsFaultOf x y)) a_is b_is h
+      pub answers_files : (r : Result Answer Fault) → MatchResult r (IsAnswer c a b) (IsFaultOf c a b) → IfOk r (λ x. Told (AnswersFiles c m i x) t0 t2)
+      answers_files (Ok x) h = answer_told x (over (Ok x) h)
+      answers_files (Err f) h = tt
 
-      pub answers_files : IfOk r (λ x. Told (AnswersFiles m i x) t0 t2)
-      answers_files = answers r decided_over
-
-      pub faults_files : (f0 f2 : Place → ℕ) → IfErr r (IsCause m i f0 f2 t0 t2)
-      faults_files f0 f2 = faults f0 f2 r decided_over
+      pub faults_files : (f0 f2 : Place → ℕ) (r : Result Answer Fault) → MatchResult r (IsAnswer c a b) (IsFaultOf c a b) → IfErr r (IsCause c m i f0 f2 t0 t2)
+      faults_files f0 f2 (Ok x) h = tt
+      faults_files f0 f2 (Err f) h = fault_cause f0 f2 f (over (Err f) h)

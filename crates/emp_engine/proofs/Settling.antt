@@ -11,14 +11,14 @@ use Rattle.emp_rows.specs.Walk.{Decision, solved, refuted, too_wide, walk_of, Is
 use Rattle.emp_rows.proofs.WalkCount.{few_pivots}
 use Rattle.emp_engine.specs.declared.outline.Outline.{Outline}
 use Rattle.emp_engine.specs.declared.fault_line.Fault.{Fault}
-use Rattle.emp_engine.specs.declared.fault_line.Fault.TheVariants.{NotYet, Unread, NoMemory, Wide}
+use Rattle.emp_engine.specs.declared.fault_line.Fault.TheVariants.{NotYet, Unread, TooLong, BadModel, NoMemory, Wide}
 use Rattle.emp_engine.specs.declared.decide.Answer.{Answer}
 use Rattle.emp_engine.specs.Form.{IsSound}
 use Rattle.emp_engine.specs.FirstForm.{IsForm}
 use Rattle.emp_engine.specs.Meaning.{row_of, rows_of}
 use Rattle.emp_engine.specs.Report.{equilibrium_report, missing_report}
 use Rattle.emp_engine.specs.Run.{Decides, point, none, wide}
-use Rattle.emp_engine.specs.Steps.{Settles, settled_point, settled_none, IsAnswerOf, IsWalkFault, IsAnswer, IsFaultOf}
+use Rattle.emp_engine.specs.Steps.{Settles, settled_point, settled_none, IsAnswerOf, IsWalkFault, IsDecided, IsUndecided}
 
 -- there are at most 32 rows
 few_rows : (o : Outline) → IsSound o → length (rows_of o) ≤ 32
@@ -77,9 +77,11 @@ module _ (m i : List ℕ) (o : Outline) (form : IsForm m i o) where
   settles_decides status text (settled_point n d fs walk at) = point o n d fs form walk at
   settles_decides status text (settled_none n fs walk) = none o n fs form walk
 
-  pub settled_decides : (r : Result Answer Fault) → MatchResult r (IsAnswerOf o) (IsWalkFault o) → MatchResult r (IsAnswer m i) (IsFaultOf m i)
+  pub settled_decides : (r : Result Answer Fault) → MatchResult r (IsAnswerOf o) (IsWalkFault o) → MatchResult r (IsDecided m i) (IsUndecided m i)
   settled_decides (Ok a) h = record { status = h.status; decided = settles_decides a.status a.text.items h.settles }
   settled_decides (Err NotYet) h = absurd h
   settled_decides (Err (Unread file)) h = absurd h
+  settled_decides (Err (TooLong file)) h = absurd h
+  settled_decides (Err (BadModel f)) h = absurd h
   settled_decides (Err NoMemory) h = tt
   settled_decides (Err (Wide pivot)) h = wide o pivot form h

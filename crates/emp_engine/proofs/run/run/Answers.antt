@@ -4,15 +4,17 @@ use Rattle.emp_engine.proofs.run.run.Goals as goal
 pub returns-in-Some : goal.returns-in-Some
 returns-in-Some g c =
     let asks = c.in-Some.ensures in
-    let e = c.solve.ensures (map string_bytes c.args.words.now) asks in
+    let e = c.carry_out.ensures (map string_bytes c.args.words.now) asks in
     record {
       equilibrium = e.equilibrium;
       none = e.none;
+      canonical = e.canonical;
+      model_fault = e.model_fault;
       due = e.due;
       unread = e.unread;
       unsaid = e.unsaid;
       cut = e.cut;
-      words = λ bad. absurd (bad (_, _, asks));
+      words = λ bad. absurd (bad (_, _, _, asks));
       files = e.files;
       answers = e.answers;
       complete = e.complete;
@@ -24,6 +26,8 @@ returns-in-None g c =
     record {
       equilibrium = e.equilibrium;
       none = e.none;
+      canonical = e.canonical;
+      model_fault = e.model_fault;
       due = e.due;
       unread = e.unread;
       unsaid = e.unsaid;
