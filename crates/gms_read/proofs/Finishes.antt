@@ -1,5 +1,5 @@
 -- What is left to see and to copy after the text.
-use Rattle.std.proofs.Common.{◌≡◌, ℕ, ◌+◌, ◌<◌, ◌≤◌, Bool, true, false, cond, ℤ, Option, Some, None, List, [], ◌∷◌, ◌++◌, length, take, drop, get_or, refl, sym, ap, subst, ◌∙◌, ◌⊎◌, inl, inr, arith}
+use Rattle.std.proofs.Common.{◌≡◌, ℕ, ◌+◌, ◌<◌, ◌≤◌, Bool, true, false, cond, ℤ, Some, None, List, [], ◌∷◌, ◌++◌, length, take, drop, get_or, refl, sym, ap, ◌∙◌, ◌⊎◌, inl, inr, arith}
 use Rattle.std.proofs.lemmas.Int.{ints}
 use Rattle.std.specs.Prelude.{int_lt}
 use Rattle.std.specs.Ordering.{is_gt}
@@ -9,7 +9,6 @@ use Rattle.std.proofs.lemmas.List.{drop_more, drop_all, take_more, take_all}
 use Rattle.emp_num.specs.Orders.{IsOrder}
 use Rattle.emp_ast.specs.declared.model.Equation.{Equation}
 use Rattle.gms_read.specs.declared.draft.DraftVariable.{DraftVariable}
-use Rattle.gms_read.specs.declared.fault.ModelFault.{ModelFault}
 use Rattle.gms_read.specs.declared.fault.ModelFault.TheVariants.{Undefined, BoundsCross}
 use Rattle.gms_read.specs.Rules.{no_equation, undefined_from, crosses, crossing_from, end_of, finished_variables}
 

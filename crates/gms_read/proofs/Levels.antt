@@ -1,9 +1,8 @@
 -- The levels over the lexemes of a text.
-use Rattle.std.proofs.Common.{◌≡◌, ℕ, ◌+◌, ◌<◌, ◌≤◌, cond, Option, Some, None, List, [], ◌∷◌, length, drop, get_or, sym, ap, ◌∙◌}
+use Rattle.std.proofs.Common.{◌≡◌, ℕ, ◌+◌, ◌<◌, ◌≤◌, cond, Some, None, List, ◌∷◌, length, drop, get_or, sym, ap, ◌∙◌}
 use Rattle.std.specs.Prelude.{nat_lt}
 use Rattle.std.proofs.lemmas.Bool.{lt-ltb, le-ltb}
 use Rattle.std.proofs.lemmas.List.{drop_more, drop_all}
-use Rattle.emp_ast.specs.declared.tree.Place.{Place}
 use Rattle.gms_read.specs.declared.lexeme.Lexeme.{Lexeme}
 use Rattle.gms_read.specs.Nesting.{level_behind, too_deep_from}
 

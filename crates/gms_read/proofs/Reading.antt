@@ -1,9 +1,8 @@
 -- From the steps of the reader to what a text stands for.
-use Rattle.std.proofs.Common.{◌≡◌, ℕ, ◌+◌, Bool, true, false, cond, not, ◌&&◌, List, length, [], ◌∷◌, Option, Some, None, refl, sym, ap, subst, ◌∙◌, ◌⊎◌, inl, inr}
+use Rattle.std.proofs.Common.{◌≡◌, ℕ, ◌+◌, Bool, true, false, cond, not, ◌&&◌, List, length, [], ◌∷◌, Option, Some, None, sym, ap, subst, ◌∙◌, inl, inr}
 use Rattle.std.specs.Prelude.{nat_lt, Result, Ok, Err, MatchResult}
 use Rattle.emp_ast.specs.declared.tree.Place.{Place}
 use Rattle.emp_ast.specs.declared.model.Model.{Model as WholeModel}
-use Rattle.emp_ast.specs.declared.model.Relation.{Relation}
 use Rattle.emp_ast.specs.declared.model.Sense.{Sense}
 use Rattle.emp_lex.specs.declared.token.Token.{Token}
 use Rattle.emp_lex.specs.Tokens.{IsTokenList}
@@ -24,10 +23,9 @@ use Rattle.gms_read.specs.declared.fault.ModelFault.TheVariants.{Lex, Syntax, Un
 use Rattle.emp_ast.specs.declared.model.Equation.{Equation}
 use Rattle.gms_read.specs.Lexemes.{AreLexemes}
 use Rattle.gms_read.specs.Nesting.{too_deep}
-use Rattle.gms_read.specs.Grammar.{Written, numeral, name, call, listed, grouped, raised, signed, joined, Statement, empty, variables, equations, definition, setting, model, solve, IsFile}
-use Rattle.gms_read.specs.Rules.{Step, most, is_none, has_sign, first_low, first_high, variable_at, with_variable, add_variable, add_equation, add_model, is_infinite, with_low, with_high, is_model, crosses, and_then, or_else, unless_fault, fault_where, expression_fault, restrict, declare_new, declare_by, declare_variable, declare_equation, declare_all, discrete_fault, declare_model, definition_fault, define, set_variable, set_equation, set_by, aim_at, aim, after, after_all, nothing_yet, undefined_from, crossing_from, finish_by, finish, whole_meaning_by, whole_meaning, declared_as, variable_of, equation_of}
-use Rattle.gms_read.specs.Texts.{HasLexemes, HasStatements, Gives, IsModelText, RefusesModel}
-use Rattle.gms_read.specs.Items.{items_of}
+use Rattle.gms_read.specs.Grammar.{Written, numeral, name, call, listed, grouped, raised, signed, joined, Statement, empty, variables, equations, definition, setting, model, solve}
+use Rattle.gms_read.specs.Rules.{Step, most, is_none, has_sign, first_low, first_high, variable_at, with_variable, add_variable, add_equation, add_model, is_infinite, with_low, with_high, is_model, crosses, and_then, or_else, unless_fault, fault_where, expression_fault, declare_by, declare_variable, declare_equation, declare_all, discrete_fault, definition_fault, set_variable, set_equation, set_by, aim_at, aim, after, after_all, nothing_yet, undefined_from, crossing_from, finish_by, finish, whole_meaning_by, whole_meaning, declared_as, variable_of, equation_of}
+use Rattle.gms_read.specs.Texts.{HasLexemes, Gives, IsModelText, RefusesModel}
 use Rattle.gms_read.specs.Steps.{AreItems, DraftsAll, FinishesAs}
 
 -- ---- the faults that rules have

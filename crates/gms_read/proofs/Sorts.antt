@@ -1,7 +1,7 @@
 -- Tokens as lexemes.
-use Rattle.std.proofs.Common.{◌≡◌, ℕ, ◌+◌, ◌<◌, ◌≤◌, Bool, true, false, ℤ, List, [], ◌∷◌, ◌++◌, length, All, Option, take, drop, get_or, refl, sym, ap, subst, ◌∙◌, arith}
+use Rattle.std.proofs.Common.{◌≡◌, ℕ, ◌+◌, ◌<◌, ◌≤◌, Bool, true, false, ℤ, List, [], ◌∷◌, ◌++◌, length, All, Option, take, drop, get_or, refl, sym, ap, subst, ◌∙◌}
 use Rattle.std.specs.Prelude.{Result, Ok, Err, is_ok, slice_range}
-use Rattle.std.proofs.lemmas.List.{drop-drop, take_more, take_all}
+use Rattle.std.proofs.lemmas.List.{take_more, take_all}
 use Rattle.std.proofs.lemmas.List.Elements.{All-nil, All-cons}
 use Rattle.emp_num.specs.declared.frac.Frac.{Frac}
 use Rattle.emp_num.specs.declared.numeral.NumeralFault.{NumeralFault}
@@ -12,6 +12,7 @@ use Rattle.emp_lex.specs.declared.token.Token.{Token}
 use Rattle.emp_lex.specs.declared.fault.LexFault.{LexFault}
 use Rattle.emp_lex.specs.Tokens.{Reads, at_end, skipped, taken, stopped, too_wide, IsTokenList, IsTooWide}
 use Rattle.emp_lex.proofs.Lexing.{slice_is}
+use Rattle.emp_lex.proofs.TokenBytes.{behind_is}
 use Rattle.gms_read.specs.declared.lexeme.Lexeme.{Lexeme}
 use Rattle.gms_read.specs.Lexemes.{IsLexeme, AreLexemes}
 
@@ -31,9 +32,6 @@ pub ruleset reading = (numeral_read)
 -- ---- tokens
 abbrev pub IsNarrow : List ℕ → Token → Type 0
 IsNarrow text t = IsTooWide t.kind (slice_range text t.from t.to) → ⊥
-
-behind_is : (text : List ℕ) (at size b : ℕ) (bs : List ℕ) → drop at text ≡ b ∷ bs → drop (at + size) text ≡ drop size (b ∷ bs)
-behind_is text at size b bs e = sym (drop-drop size at text) ∙ ap (drop size) e
 
 narrow_from : (text : List ℕ) {at : ℕ} {p : Place} {left : List ℕ} {ts : List Token} {end : Option LexFault} → Reads at p left ts end → drop at text ≡ left → All (IsNarrow text) ts
 narrow_from text (at_end at p) e = All-nil (IsNarrow text)

@@ -1,4 +1,4 @@
-use Rattle.std.proofs.Common.{◌≡◌, ℕ, Vec, Global, List, [], ◌∷◌, ◌++◌, map, Option, None, refl, ap, ◌∙◌}
+use Rattle.std.proofs.Common.{◌≡◌, ℕ, Vec, Global, [], ◌∷◌, ◌++◌, map, None, refl, ap, ◌∙◌}
 use Rattle.emp_list.specs.Case.{lower}
 use Rattle.gms_read.specs.Rules.{entry_of}
 use Rattle.gms_read.proofs.Tables.{entry, added_is}
