@@ -2,3 +2,5 @@ pub mod Pieces
 pub mod Sound
 pub mod Depths
 pub mod GoodTexts
+pub mod Drafts
+pub mod Soundness
