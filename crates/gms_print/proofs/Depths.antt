@@ -1,5 +1,5 @@
 -- How deep the parentheses of the lexemes of an expression are nested, and that its print is no deeper.
-use Rattle.std.proofs.Common.{◌≡◌, ℕ, ◌+◌, ◌-◌, ◌≤◌, max, Bool, true, false, cond, not, ◌||◌, List, [], ◌∷◌, ◌++◌, Option, Some, None, refl, sym, ap, subst, ◌∙◌, arith, append_assoc}
+use Rattle.std.proofs.Common.{◌≡◌, ℕ, ◌+◌, ◌-◌, ◌≤◌, max, Bool, true, false, cond, not, ◌||◌, List, [], ◌∷◌, ◌++◌, Option, Some, None, refl, ap, subst, ◌∙◌, arith, append_assoc}
 use Rattle.std.specs.Prelude.{nat_lt}
 use Rattle.std.proofs.lemmas.Bool.{ltb-false}
 use Rattle.std.proofs.Math.Nat.{le-max_left, le-max_right, max-le}
@@ -83,16 +83,16 @@ both_most a b j k p q =
     let r : k ≤ max j k = le-max_right j k in
     max-le (omega arith) (omega arith)
 
+-- a product or a sum is no deeper than the deeper of its sides
+product_fits : (s : Scale) (e f : Expression) (j k : ℕ) → depth_at Term e ≤ j → depth_at Factor f ≤ k → depth_at Term (joined_with (product_operator s) e f) ≤ max j k
+product_fits Times e f j k p q = both_most _ _ j k p q
+product_fits Over e f j k p q = both_most _ _ j k p q
+
+sum_fits : (s : Sign) (e f : Expression) (j k : ℕ) → depth e ≤ j → depth_at Term f ≤ k → depth (joined_with (sum_operator s) e f) ≤ max j k
+sum_fits Plus e f j k p q = both_most _ _ j k p q
+sum_fits Minus e f j k p q = both_most _ _ j k p q
+
 module _ (text : List ℕ) (d : Draft) where
-  -- how the meaning of a product or a sum is printed
-  product_fits : (s : Scale) (e f : Expression) (j k : ℕ) → depth_at Term e ≤ j → depth_at Factor f ≤ k → depth_at Term (joined_with (product_operator s) e f) ≤ max j k
-  product_fits Times e f j k p q = both_most _ _ j k p q
-  product_fits Over e f j k p q = both_most _ _ j k p q
-
-  sum_fits : (s : Sign) (e f : Expression) (j k : ℕ) → depth e ≤ j → depth_at Term f ≤ k → depth (joined_with (sum_operator s) e f) ≤ max j k
-  sum_fits Plus e f j k p q = both_most _ _ j k p q
-  sum_fits Minus e f j k p q = both_most _ _ j k p q
-
   signed_fits : (s : Sign) (t : Lexeme) (e : Written) (k : ℕ) → depth_at Term (meaning text d e) ≤ k → depth (meaning text d (signed s t e)) ≤ k
   signed_fits Plus t e k h = bare_most (is_sum (meaning text d e)) (depth (meaning text d e)) k h
   signed_fits Minus t e k h = h

@@ -2,7 +2,7 @@
 use Rattle.std.proofs.Common.{◌≡◌, ◌≢◌, ◌⊎◌, inl, inr, ℕ, zero, suc, ◌+◌, ◌<◌, ◌≤◌, ℤ, pos, negsuc, Bool, true, false, cond, not, ◌&&◌, List, [], ◌∷◌, ◌++◌, map, length, AllPairs, Option, Some, None, Ok, Err, get_or, set, refl, sym, ap, subst, ◌∙◌, arith, append_assoc}
 use Rattle.std.specs.Prelude.{bytes_eq, nat_lt, nat_le}
 use Rattle.std.specs.List.{AllByRecursion as Each}
-use Rattle.std.proofs.lemmas.Bool.{both_ways, and_parts, cond_both, ltb-true, leb-true, eq-eqb, false≢true, not-false}
+use Rattle.std.proofs.lemmas.Bool.{both_ways, and_parts, cond_both, ltb-true, leb-true, eq-eqb, false≢true}
 use Rattle.std.proofs.lemmas.List.{map-set, set-get_or, map_push, length-set, length_push}
 use Rattle.std.proofs.lemmas.List.Elements.{All-from_recursion}
 use Rattle.emp_num.specs.declared.frac.Frac.{Frac}
@@ -10,12 +10,12 @@ use Rattle.emp_num.specs.Whole.{whole}
 use Rattle.emp_list.specs.Case.{lower}
 use Rattle.emp_ast.specs.declared.tree.Place.{Place}
 use Rattle.emp_ast.specs.declared.tree.Tree.{Tree}
+use Rattle.emp_ast.specs.declared.tree.VarId.{VarId}
 use Rattle.emp_ast.specs.declared.model.Relation.{Relation}
 use Rattle.emp_ast.specs.declared.model.Relation.TheVariants.{Nothing}
 use Rattle.emp_ast.specs.declared.model.Equation.{Equation}
 use Rattle.emp_ast.specs.declared.model.Sense.{Sense}
 use Rattle.emp_ast.specs.Expression.{Expression, number, variable as variable_of_number, negated, joined as joined_with, power}
-use Rattle.gms_read.specs.declared.lexeme.Word.{Word}
 use Rattle.gms_read.specs.declared.lexeme.Word.TheVariants.{Low, High, Fixed, Level as LevelWord, Marginal}
 use Rattle.gms_read.specs.declared.lexeme.Domain.{Domain}
 use Rattle.gms_read.specs.declared.lexeme.Domain.TheVariants.{Free, Positive, Negative, Discrete}
@@ -26,13 +26,12 @@ use Rattle.gms_read.specs.declared.lexeme.Lexeme.{Lexeme}
 use Rattle.gms_read.specs.declared.draft.Draft.{Draft}
 use Rattle.gms_read.specs.declared.draft.DraftVariable.{DraftVariable}
 use Rattle.gms_read.specs.declared.draft.Limit.{Limit}
-use Rattle.gms_read.specs.declared.draft.Limit.TheVariants.{Below, At, Above}
 use Rattle.gms_read.specs.declared.table.Named.{Named}
 use Rattle.gms_read.specs.declared.table.Named.TheVariants.{Variable as VariableName, Equation as EquationName, Model as ModelName}
 use Rattle.gms_read.specs.declared.fault.ModelFault.{ModelFault}
 use Rattle.gms_read.specs.Lexemes.{spelling}
 use Rattle.gms_read.specs.Grammar.{Written, numeral, name, call, listed, grouped, raised, signed, joined, Statement, empty, variables, equations, definition, setting, model, solve}
-use Rattle.gms_read.specs.Rules.{Step, and_then, or_else, unless_fault, fault_where, entry_of, declared_as, variable_in, variable_of, is_model, is_model_entry, is_none, small_whole, exponent, is_function, expression_fault, or_zero, second_exponent, meaning, tree_of, first_low, first_high, has_sign, no_variable, variable_at, with_variable, add_variable, add_equation, add_model, restrict, declare_new, declare_by, declare_variable, declare_equation, declare_all, discrete_fault, declare_model, no_equation, equation_at, no_tree, with_definition, definition_fault, equation_of, define, is_infinite, with_low, with_high, set_variable, set_equation, set_by, with_goal, aim_at, aim, after, nothing_yet}
+use Rattle.gms_read.specs.Rules.{Step, and_then, or_else, unless_fault, fault_where, entry_of, declared_as, variable_in, is_model, is_model_entry, is_none, small_whole, exponent, expression_fault, or_zero, second_exponent, meaning, tree_of, first_low, first_high, has_sign, no_variable, variable_at, with_variable, add_variable, add_equation, add_model, restrict, declare_by, declare_variable, declare_equation, declare_all, discrete_fault, declare_model, no_equation, equation_at, no_tree, with_definition, definition_fault, equation_of, define, is_infinite, with_low, with_high, set_variable, set_equation, set_by, with_goal, aim_at, aim, after, nothing_yet}
 use Rattle.gms_print.proofs.Sound.{IsFree, IsValue, SoundExpression, SoundTree, SoundEquation, SoundGoal}
 use Rattle.gms_print.proofs.GoodTexts.{HasValues, GoodSide, SoundLimit, FreeName, GoodStatement}
 
@@ -203,12 +202,9 @@ more_equations m n [] (b ∷ bs) l h = absurd h
 more_equations m n (e ∷ es) [] l h = absurd h
 more_equations m n (e ∷ es) (b ∷ bs) l h = (λ k. let s = h.0 k in record { left = more_tree m n e.left l s.left; right = more_tree m n e.right l s.right }, more_equations m n es bs l h.1)
 
-more_goal : (m n : ℕ) (d e : Draft) → m ≤ n → d.goal ≡ e.goal → SoundGoal m d.goal → SoundGoal n e.goal
-more_goal m n d e l q h = subst (SoundGoal n) q (go d.goal h)
-  where
-    go : (g : _) → SoundGoal m g → SoundGoal n g
-    go None h = tt
-    go (Some (s, v)) h = omega arith
+more_goal : (m n : ℕ) (goal : Option (Sense × VarId)) → m ≤ n → SoundGoal m goal → SoundGoal n goal
+more_goal m n None l h = tt
+more_goal m n (Some (s, v)) l h = omega arith
 
 -- ---- declarations
 zero_is_value : IsValue (whole 0)
@@ -247,7 +243,7 @@ add_variable_sound text k d t s f h l =
       few_equations = s.few_equations;
       limits = each_push SoundLimits d.variables v s.limits (sound_first_low k, sound_first_high k);
       equations = more_equations (length d.variables) (length (d.variables ++ v ∷ [])) d.equations d.defined grown s.equations;
-      goal = more_goal (length d.variables) (length (d.variables ++ v ∷ [])) d d grown refl s.goal;
+      goal = more_goal (length d.variables) (length (d.variables ++ v ∷ [])) d.goal grown s.goal;
     }
   where
     found : {m : ℕ} (key : List ℕ) (j : ℕ) → (entry_of d.names key ≡ Some (VariableName j)) ⊎ (VariableName (length d.variables) ≡ VariableName j) → m ≡ length d.variables + 1 → j < m
@@ -316,7 +312,7 @@ add_model_sound text d t s f h l =
     found key j (inr q) = absurd (cc)
 
 -- ---- changes of a variable
-pub variable_limits : (d : Draft) (k : ℕ) → IsSound d → SoundLimits (variable_at d k)
+variable_limits : (d : Draft) (k : ℕ) → IsSound d → SoundLimits (variable_at d k)
 variable_limits d k s = each_at SoundLimits d.variables k no_variable s.limits (tt, tt)
 
 with_variable_sound : (d : Draft) (k : ℕ) (v : DraftVariable) → IsSound d → v.name ≡ (variable_at d k).name → SoundLimits v → IsSound (with_variable d k v)

@@ -1,5 +1,5 @@
 -- What the lexemes of a text are, and what the statements have for which they stand.
-use Rattle.std.proofs.Common.{◌≡◌, ◌⊎◌, inl, inr, ℕ, ◌+◌, ◌≤◌, ℤ, pos, zero, suc, negsuc, neg_ℤ, max, Bool, true, false, cond, not, ◌&&◌, List, [], ◌∷◌, ◌++◌, codes, Option, Some, None, Ok, refl, sym, ap, subst, ◌∙◌, arith}
+use Rattle.std.proofs.Common.{◌≡◌, ◌⊎◌, inl, inr, ℕ, ◌≤◌, ℤ, pos, zero, suc, negsuc, neg_ℤ, max, Bool, true, false, not, ◌&&◌, List, [], ◌∷◌, ◌++◌, codes, Ok, refl, sym, ap, subst, ◌∙◌, arith}
 use Rattle.std.specs.Prelude.{bytes_eq, slice_range}
 use Rattle.std.specs.List.{AllByRecursion as Each}
 use Rattle.std.proofs.lemmas.Bool.{both_ways, and_parts, not-true, cond_both}
@@ -17,7 +17,6 @@ use Rattle.emp_lex.specs.Forms.{HasForm, IsFormed}
 use Rattle.emp_lex.proofs.TokenBytes.{tokens_formed}
 use Rattle.gms_read.specs.declared.lexeme.Word.{Word}
 use Rattle.gms_read.specs.declared.lexeme.Word.TheVariants.{Other}
-use Rattle.gms_read.specs.declared.lexeme.Domain.{Domain}
 use Rattle.gms_read.specs.declared.lexeme.Sign.{Sign}
 use Rattle.gms_read.specs.declared.lexeme.Sign.TheVariants.{Plus, Minus}
 use Rattle.gms_read.specs.declared.lexeme.Scale.TheVariants.{Times, Over}
@@ -28,7 +27,6 @@ use Rattle.gms_read.specs.declared.draft.Draft.{Draft}
 use Rattle.gms_read.specs.declared.draft.Limit.{Limit}
 use Rattle.gms_read.specs.declared.draft.Limit.TheVariants.{Below, At, Above}
 use Rattle.gms_read.specs.Lexemes.{of_words, words, keywords, word_sort, symbol_sort, IsSort, spelling, IsLexeme, AreLexemes}
-use Rattle.gms_read.specs.Nesting.{too_deep_from}
 use Rattle.gms_read.specs.Grammar.{Written, numeral, name, call, listed, grouped, raised, signed, joined, Level, Sum, Stands, a_numeral, a_name, a_call, a_group, a_primary, a_power, a_factor, a_product, a_term, a_signed, a_sum, an_argument, arguments, IsEntry, bare, described, AreNames, first, next, next_behind_comma, signed_limit, IsUnsigned, finite, infinite, IsLimit, no_sign, with_sign, Statement, empty, variables, equations, definition, setting, model, solve, IsStatement, is_empty, is_variables, is_domain, is_equations, is_definition, is_setting, is_model}
 use Rattle.gms_read.specs.Texts.{HasLexemes}
 use Rattle.gms_read.specs.Rules.{meaning}

@@ -3,11 +3,9 @@ use Rattle.std.proofs.Common.{◌≡◌, ℕ, ◌+◌, ◌≤◌, Bool, true, fa
 use Rattle.std.specs.List.{AllByRecursion as Each}
 use Rattle.std.proofs.lemmas.Bool.{true≢false}
 use Rattle.std.proofs.lemmas.List.Elements.{All-from_recursion}
-use Rattle.emp_num.specs.declared.frac.Frac.{Frac}
 use Rattle.emp_ast.specs.declared.model.Equation.{Equation}
 use Rattle.emp_ast.specs.declared.model.Variable.{Variable}
 use Rattle.emp_ast.specs.declared.model.Model.{Model}
-use Rattle.emp_ast.specs.Names.{variable_names, equation_names}
 use Rattle.gms_read.specs.declared.lexeme.Lexeme.{Lexeme}
 use Rattle.gms_read.specs.declared.draft.Draft.{Draft}
 use Rattle.gms_read.specs.declared.draft.DraftVariable.{DraftVariable}
@@ -16,10 +14,10 @@ use Rattle.gms_read.specs.declared.draft.Limit.TheVariants.{Below, At, Above}
 use Rattle.gms_read.specs.declared.fault.ModelFault.{ModelFault}
 use Rattle.gms_read.specs.Nesting.{too_deep_from}
 use Rattle.gms_read.specs.Grammar.{Statement, solve, IsSolve, is_solve, IsFile, last, then}
-use Rattle.gms_read.specs.Rules.{Step, and_then, or_else, is_none, after, after_all, nothing_yet, undefined_from, crosses, crossing_from, end_of, finished_variables, or_empty, finished, finish_by, finish, whole_meaning_by, whole_meaning}
+use Rattle.gms_read.specs.Rules.{Step, and_then, or_else, is_none, after, after_all, nothing_yet, undefined_from, crosses, crossing_from, end_of, finished_variables, or_empty, finished, finish_by, finish, whole_meaning_by}
 use Rattle.gms_print.specs.ReadsBack.{HasText}
 use Rattle.gms_print.proofs.Sound.{IsFree, SoundEquation, SoundEnd as SoundModelEnd, low_limit, high_limit, SoundVariable, SoundGoal, all_names, Sound}
-use Rattle.gms_print.proofs.GoodTexts.{each_parts, IsGood, good_lexemes, SoundLimit, height, statement_rises, good_statement}
+use Rattle.gms_print.proofs.GoodTexts.{each_parts, IsGood, good_lexemes, SoundLimit, statement_rises, good_statement}
 use Rattle.gms_print.proofs.Drafts.{names_of, equation_names_of, model_names, draft_names, Apart, apart_pairs, SoundLimits, SoundEquations, IsSound, SoundStep, SoundEnd, sound_start, after_sound, solve_sound}
 
 -- ---- statements of a file
