@@ -1,10 +1,14 @@
 pub mod Cutting
+pub mod Depths
+pub mod Drafts
 pub mod ExpressionForms
 pub mod ExpressionLexemes
 pub mod ExpressionPieces
 pub mod ExpressionReads
 pub mod Expressions
+pub mod GoodTexts
 pub mod Numerals
 pub mod Pieces
 pub mod Sound
+pub mod Soundness
 pub mod Taking

@@ -6,9 +6,11 @@
 
 pub mod draft;
 pub mod fault;
+pub mod finish;
 pub mod item;
 pub mod lexeme;
 pub mod lexemes;
+pub mod nesting;
 pub mod parse;
 pub mod perform;
 pub mod read;

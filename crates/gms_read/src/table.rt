@@ -43,7 +43,8 @@ impl Table {
     pub fn find(&self, alloc: Global, name: &[u8]) -> Result<Option<Named>, AllocError>
         ensures { IfOk result (λ found. found ≡ entry_of self.now (lower name.now)) }
     {
-        Err(AllocError)
+        let key = name.to_ascii_lowercase(alloc)?;
+        Ok(self.entries.get(key.as_slice()).copied())
     }
 
     /// Declares a name.
@@ -51,6 +52,8 @@ impl Table {
         requires { entry_of self.old (lower name.now) ≡ None }
         ensures { OnOk result (self.new ≡ self.old ++ (lower name.now, named) ∷ []) }
     {
-        Err(AllocError)
+        let key = name.to_ascii_lowercase(alloc)?;
+        self.entries.insert(key, named)?;
+        Ok(())
     }
 }
