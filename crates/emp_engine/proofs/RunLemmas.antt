@@ -1,5 +1,6 @@
 -- How a call ends, from how its steps end.
-use Rattle.std.proofs.Common.{◌≡◌, ◌≢◌, ℕ, true, false, ◌∷◌, codes, bytes_eq, false≢true, ◌⊎◌, inl, inr, List, [], ◌++◌, Option, Some, None, arith, refl, sym, ap, subst, subst₂, ◌∙◌, le_refl}
+use Rattle.std.proofs.Common.{◌≡◌, ◌≢◌, ℕ, true, false, ◌∷◌, codes, bytes_eq, ◌⊎◌, inl, inr, List, [], ◌++◌, Option, Some, None, arith, refl, sym, ap, subst, subst₂, ◌∙◌, le_refl}
+use Rattle.std.proofs.lemmas.Bool.{false≢true}
 use Rattle.std.proofs.lemmas.List.{append-nil}
 use Rattle.emp_desk.specs.Desk.{Place, loads, output, Contents, Told, KeepsAll, KeepsFiles, Says, SaysPrefix, Rose, NoneFalls}
 use Rattle.emp_ast.specs.declared.model.Model.{Model as GamsModel}
@@ -75,23 +76,23 @@ shown m i model status text k (canonical ps t p c) e = record { model = model; m
 
 -- ---- an answer over two texts
 answer_point : (m i : List ℕ) (c : Command) (status : ℕ) (text : List ℕ) → Answers m i c status text → c ≡ Solve → status ≡ 0 → ReportsEquilibrium m i text
-answer_point m i c status text (refused c f n h) s e = absurd (omega arith)
-answer_point m i c status text (solved_texts k status text t h) s e = decided_point m i status text h e
-answer_point m i c status text (shown_texts k status text t h) s e = cc
+answer_point m i k status text (refused c f n h) s e = absurd (omega arith)
+answer_point m i c u v (solved_texts k status text t h) s e = decided_point m i status text h e
+answer_point m i c u v (shown_texts k status text t h) s e = cc
 
 answer_shown : (m i : List ℕ) (c : Command) (status : ℕ) (text : List ℕ) → Answers m i c status text → c ≡ Print → status ≡ 0 → Shown m i text
-answer_shown m i c status text (refused c f n h) s e = absurd (omega arith)
-answer_shown m i c status text (solved_texts k status text t h) s e = cc
-answer_shown m i c status text (shown_texts k status text t h) s e = shown m i k status text t h e
+answer_shown m i k status text (refused c f n h) s e = absurd (omega arith)
+answer_shown m i c u v (solved_texts k status text t h) s e = cc
+answer_shown m i c u v (shown_texts k status text t h) s e = shown m i k status text t h e
 
 record Solved (m i : List ℕ) (c : Command) : Type 0 where
   command : c ≡ Solve
   none : HasNoEquilibrium m i
 
 answer_none : (m i : List ℕ) (c : Command) (status : ℕ) (text : List ℕ) → Answers m i c status text → status ≡ 1 → Solved m i c
-answer_none m i c status text (refused c f n h) e = absurd (omega arith)
-answer_none m i c status text (solved_texts k status text t h) e = record { command = refl; none = decided_none m i status text h e }
-answer_none m i c status text (shown_texts k status text t h) e = absurd (shown_no_fault k i status text h (inl e))
+answer_none m i k status text (refused c f n h) e = absurd (omega arith)
+answer_none m i c u v (solved_texts k status text t h) e = record { command = refl; none = decided_none m i status text h e }
+answer_none m i c u v (shown_texts k status text t h) e = absurd (shown_no_fault k i status text h (inl e))
 
 record Refused (m text : List ℕ) : Type 0 where
   fault : ModelFault
@@ -100,9 +101,9 @@ record Refused (m text : List ℕ) : Type 0 where
   is : text ≡ model_line fault
 
 answer_refused : (m i : List ℕ) (c : Command) (status : ℕ) (text : List ℕ) → Answers m i c status text → status ≡ 14 → Refused m text
-answer_refused m i c status text (refused c f n h) e = record { fault = f; named = n; refuses = h; is = refl }
-answer_refused m i c status text (solved_texts k status text t h) e = absurd (decided_no_fault m i status text h e)
-answer_refused m i c status text (shown_texts k status text t h) e = absurd (shown_no_fault k i status text h (inr e))
+answer_refused m i k status text (refused c f n h) e = record { fault = f; named = n; refuses = h; is = refl }
+answer_refused m i c u v (solved_texts k status text t h) e = absurd (decided_no_fault m i status text h e)
+answer_refused m i c u v (shown_texts k status text t h) e = absurd (shown_no_fault k i status text h (inr e))
 
 -- ---- the words ask for one command
 verbs_differ : (c d : Command) → verb c ≡ verb d → c ≡ d
@@ -403,7 +404,7 @@ module _ (words : List (List ℕ)) (bad : IsPlain words → ⊥) (f0 f2 : Place 
         due = λ w. told_map (SaysPrefix not_yet_line) (SaysDue words f0 f2 30) (λ x y h. record { text = not_yet_line; due = bad_words bad; said = inr (bad, h) }) t0 t2 part;
         unread = λ k. absurd (omega arith);
         unsaid = λ k. absurd (omega arith);
-        cut = λ k. absurd (not_whole words f0 f2 30 k (inr (inr (inr (inr refl)))));
+        cut = λ k. absurd (not_whole words f0 f2 30 k (inr (inr (inr (inr (inr (inr refl)))))));
         files = told_map (SaysPrefix not_yet_line) KeepsFiles (λ x y h. h.files) t0 t2 part;
         answers = inl (inr (inr (inr (inr (inr (inr refl))))));
       })
