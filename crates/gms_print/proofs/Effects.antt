@@ -31,6 +31,7 @@ use Rattle.gms_read.specs.declared.fault.ModelFault.TheVariants.{TooLarge}
 use Rattle.gms_read.specs.Lexemes.{spelling}
 use Rattle.gms_read.specs.Grammar.{Written, Statement, variables, equations, definition, setting, model, solve}
 use Rattle.gms_read.specs.Rules.{Step, and_then, entry_of, declared_as, declare_by, declare_variable, declare_equation, declare_all, add_variable, add_equation, no_tree, expression_fault, meaning, tree_of, define, after, after_all, nothing_yet, undefined_from, crossing_from, crosses, end_of, finished_variables, finish, equation_in, variable_in, with_definition, no_equation, set_by, no_variable}
+use Rattle.gms_print.proofs.ExpressionReads.{Knows}
 use Rattle.gms_print.proofs.Sound.{low_limit, high_limit, SoundVariable}
 use Rattle.gms_print.proofs.Tables.{Entries, Leaves, Distinct, MissAll, miss_none, miss_more, entry_behind, entry_here, variable_entries, equation_entries, FindsVariables, FindsEquations, finds_more}
 
@@ -97,3 +98,116 @@ miss_equations es k [] os m d = subst (λ fs. MissAll fs os) (sym (append-nil es
 miss_equations es k (n ∷ ns) os m d =
     subst (λ fs. MissAll fs os) (append_assoc es ((lower n, EquationName k) ∷ []) (equation_entries (k + 1) ns))
     (miss_equations (es ++ (lower n, EquationName k) ∷ []) (k + 1) ns os (miss_more es (lower n) (EquationName k) (ns ++ os) m.1 d.0) d.1)
+
+-- ---- one statement after another
+after_each : (text : List ℕ) (r : Step) (ss more : List Statement) → ((e : Draft) → after_all text e (ss ++ more) ≡ and_then (after_all text e ss) (λ f. after_all text f more))
+    → and_then r (λ e. after_all text e (ss ++ more)) ≡ and_then (and_then r (λ e. after_all text e ss)) (λ f. after_all text f more)
+after_each text (Ok e) ss more h = h e
+after_each text (Err f) ss more h = refl
+
+after_append : (text : List ℕ) (d : Draft) (ss more : List Statement) → after_all text d (ss ++ more) ≡ and_then (after_all text d ss) (λ e. after_all text e more)
+after_append text d [] more = refl
+after_append text d (s ∷ ss) more = after_each text (after text d s) ss more (λ e. after_append text e ss more)
+
+pub after_then : (text : List ℕ) (d e : Draft) (r : Step) (ss more : List Statement) → after_all text d ss ≡ Ok e → after_all text e more ≡ r → after_all text d (ss ++ more) ≡ r
+after_then text d e r ss more p q = after_append text d ss more ∙ ap (λ x. and_then x (λ f. after_all text f more)) p ∙ q
+
+after_one : (text : List ℕ) (d e : Draft) (r : Step) (s : Statement) (more : List Statement) → after text d s ≡ Ok e → after_all text e more ≡ r → after_all text d (s ∷ more) ≡ r
+after_one text d e r s more p q = ap (λ x. and_then x (λ f. after_all text f more)) p ∙ q
+
+-- ---- names that are found from a number on
+abbrev pub EquationsFound : Entries → ℕ → List (List ℕ) → Type 0
+EquationsFound names j [] = Unit {0}
+EquationsFound names j (n ∷ ns) = (entry_of names (lower n) ≡ Some (EquationName j)) × EquationsFound names (j + 1) ns
+
+abbrev pub VariablesFound : Entries → ℕ → List (List ℕ) → Type 0
+VariablesFound names j [] = Unit {0}
+VariablesFound names j (n ∷ ns) = (entry_of names (lower n) ≡ Some (VariableName j)) × VariablesFound names (j + 1) ns
+
+pub equations_found : (names : Entries) (j : ℕ) (ns : List (List ℕ)) → ((k : ℕ) → k < length ns → entry_of names (lower (slice_index_or ns k [])) ≡ Some (EquationName (j + k))) → EquationsFound names j ns
+equations_found names j [] h = tt
+equations_found names j (n ∷ ns) h = (h zero (omega arith) ∙ ap (λ i. Some (EquationName i)) (omega arith), equations_found names (j + 1) ns (λ k l. h (suc k) (omega arith) ∙ ap (λ i. Some (EquationName i)) (omega arith)))
+
+pub variables_found : (names : Entries) (j : ℕ) (ns : List (List ℕ)) → ((k : ℕ) → k < length ns → entry_of names (lower (slice_index_or ns k [])) ≡ Some (VariableName (j + k))) → VariablesFound names j ns
+variables_found names j [] h = tt
+variables_found names j (n ∷ ns) h = (h zero (omega arith) ∙ ap (λ i. Some (VariableName i)) (omega arith), variables_found names (j + 1) ns (λ k l. h (suc k) (omega arith) ∙ ap (λ i. Some (VariableName i)) (omega arith)))
+
+pub knows : (names : List (List ℕ)) (text : List ℕ) (d : Draft) → FindsVariables d.names names → Knows names text d
+knows names text d h k l t e = ap (λ bs. variable_in (entry_of d.names (lower bs))) e ∙ ap variable_in (h k l)
+
+-- ---- definitions
+-- whatever the draft that knows the names, the expression is that of the tree
+pub record Means (names : List (List ℕ)) (text : List ℕ) (w : Written) (t : Tree) : Type 0 where
+  pub faultless : (d : Draft) → Knows names text d → expression_fault text d w ≡ None
+  pub means : (d : Draft) → Knows names text d → nodes_from 0 (meaning text d w) ≡ t.nodes
+
+pub record Defines (names : List (List ℕ)) (text : List ℕ) (e : Equation) (s : Statement) : Type 0 where
+  pub head : Lexeme
+  pub left : Written
+  pub right : Written
+  pub is : s ≡ definition head left e.relation right
+  pub spelled : spelling text head ≡ e.name
+  pub left_means : Means names text left e.left
+  pub right_means : Means names text right e.right
+
+abbrev pub AreDefinitions : List (List ℕ) → List ℕ → List Equation → List Statement → Type 0
+AreDefinitions names text [] [] = Unit {0}
+AreDefinitions names text (e ∷ es) (s ∷ ss) = Defines names text e s × AreDefinitions names text es ss
+AreDefinitions names text [] (s ∷ ss) = ⊥
+AreDefinitions names text (e ∷ es) [] = ⊥
+
+defines_one : (text : List ℕ) (d : Draft) (t : Lexeme) (k : ℕ) (left right : Written) (r : Relation) → declared_as text d t ≡ Some (EquationName k) → slice_index_or d.defined k false ≡ false → expression_fault text d left ≡ None → expression_fault text d right ≡ None
+    → after text d (definition t left r right) ≡ Ok (with_definition text d k left r right)
+defines_one text d t k left right r h n l m = rw (h, n, l, m) refl
+
+abbrev pub all_true : List Equation → List Bool
+all_true [] = []
+all_true (e ∷ es) = true ∷ all_true es
+
+abbrev pub equation_names_of : List Equation → List (List ℕ)
+equation_names_of es = map (λ e. e.name) es
+
+abbrev pub variable_names_of : List Variable → List (List ℕ)
+variable_names_of vs = map (λ v. v.name) vs
+
+-- the equations behind those that are defined become defined
+pub record Defined (text : List ℕ) (names : Entries) (vs : List DraftVariable) (done : List Equation) (flags : List Bool) (es : List Equation) (ss : List Statement) : Type 0 where
+  pub new : List Equation
+  pub same : SameEquations es new
+  pub is : after_all text (stage names vs (done ++ map empty_equation (equation_names_of es)) (flags ++ not_defined (equation_names_of es))) ss ≡ Ok (stage names vs (done ++ new) (flags ++ all_true es))
+
+pub defined : (text : List ℕ) (known : List (List ℕ)) (names : Entries) (vs : List DraftVariable) (j : ℕ) (done : List Equation) (flags : List Bool) (es : List Equation) (ss : List Statement)
+    → FindsVariables names known → length done ≡ j → length flags ≡ j → EquationsFound names j (equation_names_of es) → AreDefinitions known text es ss → Defined text names vs done flags es ss
+defined text known names vs j done flags [] [] f p q h a = record { new = []; same = tt; is = refl }
+defined text known names vs j done flags [] (s ∷ ss) f p q h a = absurd a
+defined text known names vs j done flags (e ∷ es) [] f p q h a = absurd a
+defined text known names vs j done flags (e ∷ es) (s ∷ ss) f p q h a =
+    let def = a.0 in
+    let more = map empty_equation (equation_names_of es) in
+    let none = not_defined (equation_names_of es) in
+    let d : Draft = stage names vs (done ++ empty_equation e.name ∷ more) (flags ++ false ∷ none) in
+    let k : Knows known text d = knows known text d f in
+    let x : Equation = record { name = e.name; left = tree_of text d def.left; right = tree_of text d def.right; relation = e.relation } in
+    let entry : declared_as text d def.head ≡ Some (EquationName j) = ap (λ bs. entry_of names (lower bs)) def.spelled ∙ h.0 in
+    let open_ : slice_index_or (flags ++ false ∷ none) j false ≡ false = get_or_at flags false none false j q in
+    let step : after text d s ≡ Ok (with_definition text d j def.left e.relation def.right) = ap (after text d) def.is ∙ defines_one text d def.head j def.left def.right e.relation entry open_ (def.left_means.faultless d k) (def.right_means.faultless d k) in
+    let here : slice_index_or (done ++ empty_equation e.name ∷ more) j no_equation ≡ empty_equation e.name = get_or_at done (empty_equation e.name) more no_equation j p in
+    let es_is : slice_set (done ++ empty_equation e.name ∷ more) j (record { name = (slice_index_or (done ++ empty_equation e.name ∷ more) j no_equation).name; left = tree_of text d def.left; right = tree_of text d def.right; relation = e.relation }) ≡ (done ++ x ∷ []) ++ more =
+    ap (λ y. slice_set (done ++ empty_equation e.name ∷ more) j (record { name = y.name; left = tree_of text d def.left; right = tree_of text d def.right; relation = e.relation })) here
+    ∙ set_at done (empty_equation e.name) more x j p
+    ∙ sym (append_assoc done (x ∷ []) more) in
+    let flags_are : slice_set (flags ++ false ∷ none) j true ≡ (flags ++ true ∷ []) ++ none = set_at flags false none true j q ∙ sym (append_assoc flags (true ∷ []) none) in
+    let next : after text d s ≡ Ok (stage names vs ((done ++ x ∷ []) ++ more) ((flags ++ true ∷ []) ++ none)) = step ∙ (λ i. Ok (stage names vs (es_is i) (flags_are i))) in
+    let rest = defined text known names vs (j + 1) (done ++ x ∷ []) (flags ++ true ∷ []) es ss f (length_push done x ∙ ap (λ n. n + 1) p) (length_push flags true ∙ ap (λ n. n + 1) q) h.1 a.1 in
+    record {
+      new = x ∷ rest.new;
+      same = (record { name = refl; left = sym (def.left_means.means d k); right = sym (def.right_means.means d k); relation = refl }, rest.same);
+      is = after_one text d (stage names vs ((done ++ x ∷ []) ++ more) ((flags ++ true ∷ []) ++ none)) (Ok (stage names vs (done ++ x ∷ rest.new) (flags ++ true ∷ all_true es))) s ss next
+      (rest.is ∙ (λ i. Ok (stage names vs (append_assoc done (x ∷ []) rest.new i) (append_assoc flags (true ∷ []) (all_true es) i))));
+    }
+
+pub none_undefined : (k : ℕ) (es new : List Equation) → SameEquations es new → undefined_from k new (all_true es) ≡ None
+none_undefined k [] [] h = refl
+none_undefined k [] (f ∷ fs) h = absurd h
+none_undefined k (e ∷ es) [] h = absurd h
+none_undefined k (e ∷ es) (f ∷ fs) h = none_undefined (k + 1) es fs h.1

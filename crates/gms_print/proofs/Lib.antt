@@ -1,4 +1,5 @@
 pub mod Pieces
 pub mod Sound
 pub mod Tables
+pub mod ExpressionReads
 pub mod Effects
