@@ -97,6 +97,10 @@ pub miss_none : (ns : List (List ℕ)) → MissAll [] ns
 miss_none [] = tt
 miss_none (n ∷ ns) = (refl, miss_none ns)
 
+pub miss_front : (es : Entries) (ns os : List (List ℕ)) → MissAll es (ns ++ os) → MissAll es ns
+miss_front es [] os h = tt
+miss_front es (n ∷ ns) os h = (h.0, miss_front es ns os h.1)
+
 -- also with one name more in the table, from which they are apart
 pub miss_more : (es : Entries) (key : List ℕ) (v : Named) (ns : List (List ℕ)) → MissAll es ns → Leaves key ns → MissAll (es ++ (key, v) ∷ []) ns
 miss_more es key v [] h l = tt
