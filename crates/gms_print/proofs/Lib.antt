@@ -3,3 +3,7 @@ pub mod Sound
 pub mod Tables
 pub mod ExpressionReads
 pub mod Effects
+pub mod ExpressionPieces
+pub mod ExpressionLexemes
+pub mod ExpressionForms
+pub mod Expressions
