@@ -7,3 +7,5 @@ pub mod ExpressionPieces
 pub mod ExpressionLexemes
 pub mod ExpressionForms
 pub mod Expressions
+pub mod Taking
+pub mod Cutting
