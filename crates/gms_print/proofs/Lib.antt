@@ -9,3 +9,4 @@ pub mod ExpressionForms
 pub mod Expressions
 pub mod Taking
 pub mod Cutting
+pub mod OneTree
