@@ -10,3 +10,4 @@ pub mod Expressions
 pub mod Taking
 pub mod Cutting
 pub mod OneTree
+pub mod Lines
