@@ -11,3 +11,4 @@ pub mod Taking
 pub mod Cutting
 pub mod OneTree
 pub mod Lines
+pub mod NamesLines

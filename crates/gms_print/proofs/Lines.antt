@@ -41,17 +41,6 @@ flat t s us e h = ap (λ l. cond (nat_lt 64 l) (Some t.place) (too_deep_from l u
 pub good_word : (b : Bool) (bs gap behind : List ℕ) (more : List Piece) → IsName bs → IsGap gap → is_of Word (slice_index (gap ++ rendered more ++ behind) 0) ≡ false → Good behind (ends_line gap) more → Good behind b (name_piece bs gap ∷ more)
 good_word b bs gap behind more f g e m = good_piece b (name_piece bs gap) more (record { form = f; sort = refl; gap = g }) (λ h. refl) e m
 
-abbrev pub EachWord : List ℕ → Type 0
-EachWord [] = Unit {0}
-EachWord (b ∷ bs) = IsTrue (is_of Word b) × EachWord bs
-
-pub each_word : (bs : List ℕ) → EachWord bs → All (λ b. IsTrue (is_of Word b)) bs
-each_word [] h = All-nil (λ b. IsTrue (is_of Word b))
-each_word (b ∷ bs) h = All-cons (λ b. IsTrue (is_of Word b)) b bs h.0 (each_word bs h.1)
-
-pub semicolon : Piece
-semicolon = symbol_piece (codes ";") (codes "\n")
-
 -- the end of a line
 pub good_semicolon : (behind : List ℕ) (more : List Piece) → Good behind true more → Good behind false (symbol_piece (codes ";") (codes "\n") ∷ more)
 good_semicolon behind more m = good_symbol (codes ";") (codes "\n") behind more (inr (inr (59, refl, refl))) (inr (inr refl)) (ends_alone (codes ";") (codes "\n" ++ rendered more ++ behind) refl refl refl) m
@@ -119,15 +108,15 @@ more_pieces (n ∷ ns) = symbol_piece (codes ",") (codes " ") ∷ name_piece n [
 pub name_and : (n xs ys : List ℕ) → xs ≡ ys → n ++ [] ++ xs ≡ n ++ ys
 name_and n xs ys e = λ i. append-nil n i ++ e i
 
-more_rendered : (ns : List (List ℕ)) → rendered (more_pieces ns) ≡ more_names ns
+pub more_rendered : (ns : List (List ℕ)) → rendered (more_pieces ns) ≡ more_names ns
 more_rendered [] = refl
 more_rendered (n ∷ ns) = ap (λ x. codes ", " ++ x) (name_and n (rendered (more_pieces ns)) (more_names ns) (more_rendered ns))
 
-more_end : (ns : List (List ℕ)) (behind : List ℕ) (more : List Piece) → is_of Word (slice_index (rendered (more_pieces ns ++ more) ++ behind) 0) ≡ false
+pub more_end : (ns : List (List ℕ)) (behind : List ℕ) (more : List Piece) → is_of Word (slice_index (rendered (more_pieces ns ++ more) ++ behind) 0) ≡ false
 more_end [] behind more = refl
 more_end (n ∷ ns) behind more = refl
 
-more_good : (ns : List (List ℕ)) → All IsFree ns → (behind : List ℕ) (more : List Piece) → Good behind true more → Good behind false (more_pieces ns ++ more)
+pub more_good : (ns : List (List ℕ)) → All IsFree ns → (behind : List ℕ) (more : List Piece) → Good behind true more → Good behind false (more_pieces ns ++ more)
 more_good [] h behind more m = good_semicolon behind more m
 more_good (n ∷ ns) h behind more m =
     let free = All-head IsFree n ns h in
@@ -145,7 +134,7 @@ pub record MoreRead (text : List ℕ) (ns : List (List ℕ)) (front seen ts : Li
   pub spelled : map (spelling text) names ≡ ns
   pub level : (us : List Lexeme) → too_deep_from 0 (ts ++ us) ≡ too_deep_from 0 us
 
-more_read : (text : List ℕ) (ns : List (List ℕ)) → All IsFree ns → (front seen : List Lexeme) → AreNames front seen → (ts : List Lexeme) → AreOf text (more_pieces ns) ts → MoreRead text ns front seen ts
+pub more_read : (text : List ℕ) (ns : List (List ℕ)) → All IsFree ns → (front seen : List Lexeme) → AreNames front seen → (ts : List Lexeme) → AreOf text (more_pieces ns) ts → MoreRead text ns front seen ts
 more_read text [] free front seen r ts h =
     one text (symbol_piece (codes ";") (codes "\n")) [] (MoreRead text [] front seen)
     (λ z us o a. none text (λ xs. MoreRead text [] front seen (z ∷ xs))
