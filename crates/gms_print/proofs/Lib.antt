@@ -12,3 +12,4 @@ pub mod Cutting
 pub mod OneTree
 pub mod Lines
 pub mod NamesLines
+pub mod EquationLines
