@@ -1,5 +1,5 @@
 -- The forms of printed expressions, each from the forms of its parts.
-use Rattle.std.proofs.Common.{◌≡◌, ℕ, ◌+◌, ◌<◌, ◌≤◌, max, Bool, true, false, nat_eq, List, [], ◌∷◌, ◌++◌, length, codes, decimal, slice_index, slice_index_or, Some, Ok, refl, sym, ap, ◌∙◌, subst, arith, append_assoc, append-nil, inl, inr}
+use Rattle.std.proofs.Common.{◌≡◌, ℕ, ◌+◌, ◌<◌, max, false, nat_eq, List, [], ◌∷◌, ◌++◌, length, codes, decimal, slice_index, slice_index_or, refl, sym, ap, ◌∙◌, subst, append_assoc, append-nil, inl, inr}
 use Rattle.emp_num.specs.declared.frac.Frac.{Frac}
 use Rattle.emp_ast.specs.declared.tree.Operator.{Operator}
 use Rattle.emp_ast.specs.declared.tree.Operator.TheVariants.{Plus, Minus, Times, Over}
@@ -8,7 +8,6 @@ use Rattle.emp_lex.specs.Forms.{IsSymbol}
 use Rattle.gms_read.specs.declared.lexeme.Lexeme.{Lexeme}
 use Rattle.gms_read.specs.Lexemes.{word_sort, symbol_sort}
 use Rattle.gms_read.specs.Grammar.{Written, Level, Sum, Term, Factor, Primary, Stands}
-use Rattle.gms_read.specs.Rules.{exponent}
 use Rattle.gms_print.specs.Canonical.{operator_text}
 use Rattle.gms_print.proofs.Pieces.{Piece, rendered, AreOf, IsGap, ends_line, SymbolEnds, Good}
 use Rattle.gms_print.proofs.Sound.{IsFree}
@@ -65,11 +64,16 @@ pub reads_grouped : {names : List (List ℕ)} {k : ℕ} {e : Expression} {t : Li
 reads_grouped {names} {k} {e} {t} r = record {
   pieces = λ gap. grouped_pieces (r.pieces []) gap;
   is = λ gap. ap (λ x. 40 ∷ x) (rendered_append (r.pieces []) (symbol_piece (codes ")") gap ∷ []) ∙ (ap (λ x. x ++ 41 ∷ (gap ++ [])) (r.is [] ∙ append-nil t) ∙ (ap (λ x. t ++ 41 ∷ x) (append-nil gap) ∙ sym (append_assoc t (codes ")") gap))));
-  good = λ gap behind more g e m. good_open behind (r.pieces [] ++ symbol_piece (codes ")") gap ∷ [] ++ more) (subst (λ ps. Good behind false ps) (sym (append_assoc (r.pieces []) (symbol_piece (codes ")") gap ∷ []) more)) (r.good [] behind (symbol_piece (codes ")") gap ∷ more) (inl refl) (record { word = refl; dot = refl }) (good_close gap behind more g m)));
+  good = good;
   first = λ rest. refl;
   stands = stands;
 }
   where
+    good : (gap behind : List ℕ) (more : List Piece) → IsGap gap → EndsOperand (gap ++ rendered more ++ behind) → Good behind (ends_line gap) more → Good behind false (grouped_pieces (r.pieces []) gap ++ more)
+    good gap behind more g e m =
+        let inner : Good behind false (r.pieces [] ++ symbol_piece (codes ")") gap ∷ more) = r.good [] behind (symbol_piece (codes ")") gap ∷ more) (inl refl) (record { word = refl; dot = refl }) (good_close gap behind more g m) in
+        good_open behind (r.pieces [] ++ symbol_piece (codes ")") gap ∷ [] ++ more) (subst (λ ps. Good behind false ps) (sym (append_assoc (r.pieces []) (symbol_piece (codes ")") gap ∷ []) more)) inner)
+
     closed : (gap text : List ℕ) (o : Lexeme) (ts : List Lexeme) → o.sort ≡ symbol_sort (codes "(") → Middle text (r.pieces []) (symbol_piece (codes ")") gap) [] ts → StandsFor names Primary (k + 1) e text (o ∷ ts)
     closed gap text o ts h m =
         let same : ts ≡ m.front ++ m.at ∷ [] = m.is ∙ ap (λ b. m.front ++ m.at ∷ b) (are_none text m.back m.are_back) in
@@ -172,10 +176,19 @@ reads_joined {names} {k} {l} {e} {f} {t} {u} op a b = record {
   where
     is : (gap : List ℕ) → rendered (a.pieces (operator_gap op) ++ operator_piece op ∷ b.pieces gap) ≡ (t ++ operator_text op ++ u) ++ gap
     is gap =
-        rendered_append (a.pieces (operator_gap op)) (operator_piece op ∷ b.pieces gap) ∙ (ap (λ x. x ++ rendered (operator_piece op ∷ b.pieces gap)) (a.is (operator_gap op)) ∙ (ap (λ x. (t ++ operator_gap op) ++ ((operator_bytes op ++ operator_gap op) ++ x)) (b.is gap) ∙ (joined_bytes t (operator_gap op) (operator_bytes op) u gap ∙ ap (λ x. ((t ++ x) ++ u) ++ gap) (sym (operator_text_is op)))))
+        let right = rendered (operator_piece op ∷ b.pieces gap) in
+        rendered_append (a.pieces (operator_gap op)) (operator_piece op ∷ b.pieces gap)
+        ∙ (ap (λ x. x ++ right) (a.is (operator_gap op))
+        ∙ (ap (λ x. (t ++ operator_gap op) ++ ((operator_bytes op ++ operator_gap op) ++ x)) (b.is gap)
+        ∙ (joined_bytes t (operator_gap op) (operator_bytes op) u gap
+        ∙ ap (λ x. ((t ++ x) ++ u) ++ gap) (sym (operator_text_is op)))))
 
     good_right : (gap behind : List ℕ) (more : List Piece) → IsGap gap → EndsOperand (gap ++ rendered more ++ behind) → Good behind (ends_line gap) more → Good behind false (operator_piece op ∷ (b.pieces gap ++ more))
-    good_right gap behind more g e m = good_symbol (operator_bytes op) (operator_gap op) behind (b.pieces gap ++ more) (operator_symbol op) (operator_is_gap op) (subst (λ x. SymbolEnds (operator_bytes op) x) (sym (append_assoc (operator_gap op) (rendered (b.pieces gap ++ more)) behind)) (operator_ends op (rendered (b.pieces gap ++ more) ++ behind) (first_behind b gap behind more))) (subst (λ x. Good behind x (b.pieces gap ++ more)) (sym (operator_same_line op)) (b.good gap behind more g e m))
+    good_right gap behind more g e m =
+        let qs = b.pieces gap ++ more in
+        let ends : SymbolEnds (operator_bytes op) (operator_gap op ++ (rendered qs ++ behind)) = operator_ends op (rendered qs ++ behind) (first_behind b gap behind more) in
+        let here : SymbolEnds (operator_bytes op) (operator_gap op ++ rendered qs ++ behind) = subst (λ x. SymbolEnds (operator_bytes op) x) (sym (append_assoc (operator_gap op) (rendered qs) behind)) ends in
+        good_symbol (operator_bytes op) (operator_gap op) behind qs (operator_symbol op) (operator_is_gap op) here (subst (λ x. Good behind x qs) (sym (operator_same_line op)) (b.good gap behind more g e m))
 
     starts : (behind : List ℕ) (more : List Piece) → EndsOperand (operator_gap op ++ rendered (operator_piece op ∷ more) ++ behind)
     starts behind more = subst (λ x. EndsOperand x) (here (operator_gap op) (operator_bytes op) (rendered more)) (operator_starts op (operator_gap op ++ (rendered more ++ behind)))
@@ -185,7 +198,10 @@ reads_joined {names} {k} {l} {e} {f} {t} {u} op a b = record {
 
     good : (gap behind : List ℕ) (more : List Piece) → IsGap gap → EndsOperand (gap ++ rendered more ++ behind) → Good behind (ends_line gap) more → Good behind false ((a.pieces (operator_gap op) ++ operator_piece op ∷ b.pieces gap) ++ more)
     good gap behind more g e m =
-        subst (λ ps. Good behind false ps) (sym (append_assoc (a.pieces (operator_gap op)) (operator_piece op ∷ b.pieces gap) more)) (a.good (operator_gap op) behind (operator_piece op ∷ (b.pieces gap ++ more)) (operator_is_gap op) (starts behind (b.pieces gap ++ more)) (subst (λ x. Good behind x (operator_piece op ∷ (b.pieces gap ++ more))) (sym (operator_same_line op)) (good_right gap behind more g e m)))
+        let qs = b.pieces gap ++ more in
+        let right : Good behind (ends_line (operator_gap op)) (operator_piece op ∷ qs) = subst (λ x. Good behind x (operator_piece op ∷ qs)) (sym (operator_same_line op)) (good_right gap behind more g e m) in
+        let whole : Good behind false (a.pieces (operator_gap op) ++ operator_piece op ∷ qs) = a.good (operator_gap op) behind (operator_piece op ∷ qs) (operator_is_gap op) (starts behind qs) right in
+        subst (λ ps. Good behind false ps) (sym (append_assoc (a.pieces (operator_gap op)) (operator_piece op ∷ b.pieces gap) more)) whole
 
     both : (gap text : List ℕ) (ts : List Lexeme) → Middle text (a.pieces (operator_gap op)) (operator_piece op) (b.pieces gap) ts → StandsFor names (left_level op) (max k l) (joined op e f) text ts
     both gap text ts m =

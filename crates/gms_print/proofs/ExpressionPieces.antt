@@ -1,10 +1,8 @@
 -- Pieces of printed expressions, and the lexemes of pieces side by side.
-use Rattle.std.proofs.Common.{◌≡◌, ℕ, Bool, true, false, cond, nat_eq, List, [], ◌∷◌, ◌++◌, length, codes, slice_index, Ok, refl, sym, ap, ◌∙◌, subst, arith, append_assoc, append-nil, ne_eqb, inl, inr}
+use Rattle.std.proofs.Common.{IsTrue, All, ◌≡◌, ℕ, true, false, nat_eq, List, [], ◌∷◌, ◌++◌, length, codes, slice_index, Ok, refl, sym, ap, ◌∙◌, subst, arith, append_assoc, ne_eqb}
 use Rattle.std.proofs.lemmas.List.Elements.{All-nil, All-cons}
-use Rattle.std.proofs.Common.{IsTrue, All}
 use Rattle.emp_num.specs.declared.frac.Frac.{Frac}
 use Rattle.emp_num.specs.Numeral.{numeral_form, NumeralGives}
-use Rattle.emp_lex.specs.declared.token.TokenKind.{TokenKind}
 use Rattle.emp_lex.specs.declared.token.TokenKind.TheVariants.{Name, Numeral, Symbol}
 use Rattle.emp_lex.specs.declared.scan.Class.TheVariants.{Word}
 use Rattle.emp_lex.specs.Bytes.{is_of, is_letter}

@@ -1,6 +1,6 @@
 -- What a printed expression is to the reader: pieces that are cut again as they are, lexemes that stand for the expression,
 -- and parentheses that are nested no deeper than its own.
-use Rattle.std.proofs.Common.{◌≡◌, ℕ, ◌+◌, ◌<◌, ◌≤◌, Bool, true, false, nat_eq, List, [], ◌++◌, length, decimal, slice_index, slice_index_or, Option, Some, None, Ok}
+use Rattle.std.proofs.Common.{◌≡◌, ℕ, ◌+◌, ◌<◌, ◌≤◌, true, false, nat_eq, List, [], ◌++◌, length, decimal, slice_index, slice_index_or, Some, None, Ok}
 use Rattle.emp_num.specs.declared.frac.Frac.{Frac}
 use Rattle.emp_num.specs.Numeral.{numeral_form, NumeralGives}
 use Rattle.emp_ast.specs.Expression.{Expression}
