@@ -13,3 +13,4 @@ pub mod OneTree
 pub mod Lines
 pub mod NamesLines
 pub mod EquationLines
+pub mod Numerals
