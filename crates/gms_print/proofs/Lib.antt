@@ -14,3 +14,4 @@ pub mod Lines
 pub mod NamesLines
 pub mod EquationLines
 pub mod Numerals
+pub mod BoundLines
