@@ -15,3 +15,4 @@ pub mod NamesLines
 pub mod EquationLines
 pub mod Numerals
 pub mod BoundLines
+pub mod LastLines
