@@ -16,3 +16,4 @@ pub mod EquationLines
 pub mod Numerals
 pub mod BoundLines
 pub mod LastLines
+pub mod Whole
