@@ -1,9 +1,8 @@
 -- The lines that set the bounds of a printed model.
-use Rattle.std.proofs.Common.{◌≡◌, ◌⊎◌, inl, inr, ℕ, zero, suc, Bool, true, false, ℤ, pos, negsuc, neg_ℤ, ◌≤ℤ◌, unsigned_abs, List, [], ◌∷◌, ◌++◌, map, length, All, codes, decimal, slice_index, Some, Ok, refl, sym, ap, subst, ◌∙◌, arith, append_assoc, append-nil}
+use Rattle.std.proofs.Common.{◌≡◌, ◌⊎◌, inl, inr, ℕ, zero, suc, Bool, true, false, ℤ, pos, negsuc, neg_ℤ, ◌≤ℤ◌, unsigned_abs, List, [], ◌∷◌, ◌++◌, All, codes, decimal, slice_index, Ok, refl, sym, ap, subst, ◌∙◌, arith, append_assoc, append-nil}
 use Rattle.std.proofs.lemmas.Int.{ints}
 use Rattle.std.proofs.lemmas.List.Elements.{All-head, All-tail}
 use Rattle.emp_num.specs.declared.frac.Frac.{Frac}
-use Rattle.emp_num.specs.declared.numeral.NumeralFault.{NumeralFault}
 use Rattle.emp_num.specs.Numeral.{numeral_form, NumeralGives, FormGives}
 use Rattle.emp_num.specs.Opposite.{opposite, same_size}
 use Rattle.emp_num.proofs.Same.{frac_eq}
@@ -17,12 +16,10 @@ use Rattle.gms_read.specs.declared.lexeme.Word.TheVariants.{Low, High}
 use Rattle.gms_read.specs.declared.lexeme.Sign.TheVariants.{Minus}
 use Rattle.gms_read.specs.declared.lexeme.Sort.TheVariants.{Name, Numeral, Sign, Equals, Semicolon, Dot}
 use Rattle.gms_read.specs.declared.lexeme.Lexeme.{Lexeme}
-use Rattle.gms_read.specs.declared.draft.Limit.{Limit}
 use Rattle.gms_read.specs.declared.draft.Limit.TheVariants.{At}
 use Rattle.gms_read.specs.Lexemes.{word_sort}
 use Rattle.gms_read.specs.Nesting.{too_deep_from}
-use Rattle.gms_read.specs.Rules.{exponent}
-use Rattle.gms_read.specs.Grammar.{Statement, setting, finite, IsLimit, no_sign, with_sign, IsStatement, is_setting}
+use Rattle.gms_read.specs.Grammar.{Statement, setting, finite, IsLimit, no_sign, with_sign, is_setting}
 use Rattle.gms_print.specs.Canonical.{IsDecimal, IsNumeral, sign_text, EndLine, no_end, an_end, BoundLines, no_variables, a_variable}
 use Rattle.gms_print.proofs.Pieces.{Piece, rendered, IsOf, AreOf, SymbolEnds, Good}
 use Rattle.gms_print.proofs.Sound.{IsFree, IsValue, SoundEnd, SoundVariable}
@@ -79,18 +76,18 @@ negative f t r = record {
   pieces = symbol_piece (codes "-") [] ∷ numeral_piece (opposite f) t [] ∷ [];
   is = ap (λ x. codes "-" ++ x) (append-nil (t ++ []) ∙ append-nil t);
   good = λ behind more e m.
-    good_symbol (codes "-") [] behind (numeral_piece (opposite f) t [] ∷ more) (inr (inr (45, refl, refl))) (inl refl) (ends_alone (codes "-") (rendered (numeral_piece (opposite f) t [] ∷ more) ++ behind) refl refl refl)
-    (good_numeral (opposite f) t [] behind more r.form r.gives (inl refl) e m);
+      good_symbol (codes "-") [] behind (numeral_piece (opposite f) t [] ∷ more) (inr (inr (45, refl, refl))) (inl refl) (ends_alone (codes "-") (rendered (numeral_piece (opposite f) t [] ∷ more) ++ behind) refl refl refl)
+      (good_numeral (opposite f) t [] behind more r.form r.gives (inl refl) e m);
   stands = λ text ts a.
-    one text (symbol_piece (codes "-") []) (numeral_piece (opposite f) t [] ∷ []) (λ xs. IsLimit xs (At f))
-    (λ g us o b. one text (numeral_piece (opposite f) t []) [] (λ xs. IsLimit (g ∷ xs) (At f))
+      one text (symbol_piece (codes "-") []) (numeral_piece (opposite f) t [] ∷ []) (λ xs. IsLimit xs (At f))
+      (λ g us o b. one text (numeral_piece (opposite f) t []) [] (λ xs. IsLimit (g ∷ xs) (At f))
       (λ n vs q c. none text (λ xs. IsLimit (g ∷ n ∷ xs) (At f)) (subst (λ h. IsLimit (g ∷ n ∷ []) (At h)) (twice_opposite f) (with_sign g n Minus (At (opposite f)) o.sort (finite n (opposite f) q.sort))) vs c) us b)
-    ts a;
+      ts a;
   level = λ text ts a us.
-    one text (symbol_piece (codes "-") []) (numeral_piece (opposite f) t [] ∷ []) (λ xs. too_deep_from 0 (xs ++ us) ≡ too_deep_from 0 us)
-    (λ g vs o b. one text (numeral_piece (opposite f) t []) [] (λ xs. too_deep_from 0 (g ∷ xs ++ us) ≡ too_deep_from 0 us)
+      one text (symbol_piece (codes "-") []) (numeral_piece (opposite f) t [] ∷ []) (λ xs. too_deep_from 0 (xs ++ us) ≡ too_deep_from 0 us)
+      (λ g vs o b. one text (numeral_piece (opposite f) t []) [] (λ xs. too_deep_from 0 (g ∷ xs ++ us) ≡ too_deep_from 0 us)
       (λ n ws q c. none text (λ xs. too_deep_from 0 (g ∷ n ∷ xs ++ us) ≡ too_deep_from 0 us) (flat g (Sign Minus) (n ∷ us) o.sort refl ∙ flat n (Numeral (opposite f)) us q.sort refl) ws c) vs b)
-    ts a;
+      ts a;
 }
 
 -- a fraction that is not negative is a numeral's value, if its opposite is one
@@ -187,29 +184,29 @@ bound_line name attribute word w f t free a l =
           stands = is_setting h d k q z us (At f) (free.word, named) od.sort (w, worded) oq.sort (l.stands text us b) oz.sort;
           are = sets_end h k f oh.bytes worded;
           level = λ ws.
-            flat h (Name free.word) (d ∷ k ∷ q ∷ (us ++ z ∷ []) ++ ws) named refl
-            ∙ flat d Dot (k ∷ q ∷ (us ++ z ∷ []) ++ ws) od.sort refl
-            ∙ flat k (Name w) (q ∷ (us ++ z ∷ []) ++ ws) worded refl
-            ∙ flat q Equals ((us ++ z ∷ []) ++ ws) oq.sort refl
-            ∙ ap (too_deep_from 0) (append_assoc us (z ∷ []) ws)
-            ∙ l.level text us b (z ∷ ws)
-            ∙ flat z Semicolon ws oz.sort refl;
+              flat h (Name free.word) (d ∷ k ∷ q ∷ (us ++ z ∷ []) ++ ws) named refl
+              ∙ flat d Dot (k ∷ q ∷ (us ++ z ∷ []) ++ ws) od.sort refl
+              ∙ flat k (Name w) (q ∷ (us ++ z ∷ []) ++ ws) worded refl
+              ∙ flat q Equals ((us ++ z ∷ []) ++ ws) oq.sort refl
+              ∙ ap (too_deep_from 0) (append_assoc us (z ∷ []) ws)
+              ∙ l.level text us b (z ∷ ws)
+              ∙ flat z Semicolon ws oz.sort refl;
         }
 
     reads : (text : List ℕ) (ts : List Lexeme) → AreOf text (bound_pieces name attribute (l.pieces ++ symbol_piece (codes ";") (codes "\n") ∷ [])) ts → ReadsLine (λ ss. SetsEnd text name w (AtEnd f) ss) ts
     reads text ts x =
         one text (name_piece name []) (symbol_piece (codes ".") [] ∷ name_piece attribute (codes " ") ∷ symbol_piece (codes "=") (codes " ") ∷ (l.pieces ++ symbol_piece (codes ";") (codes "\n") ∷ [])) (ReadsLine (λ ss. SetsEnd text name w (AtEnd f) ss))
         (λ h x1 oh a1. one text (symbol_piece (codes ".") []) (name_piece attribute (codes " ") ∷ symbol_piece (codes "=") (codes " ") ∷ (l.pieces ++ symbol_piece (codes ";") (codes "\n") ∷ [])) (λ xs. ReadsLine (λ ss. SetsEnd text name w (AtEnd f) ss) (h ∷ xs))
-          (λ d x2 od a2. one text (name_piece attribute (codes " ")) (symbol_piece (codes "=") (codes " ") ∷ (l.pieces ++ symbol_piece (codes ";") (codes "\n") ∷ [])) (λ xs. ReadsLine (λ ss. SetsEnd text name w (AtEnd f) ss) (h ∷ d ∷ xs))
-            (λ k x3 ok a3. one text (symbol_piece (codes "=") (codes " ")) (l.pieces ++ symbol_piece (codes ";") (codes "\n") ∷ []) (λ xs. ReadsLine (λ ss. SetsEnd text name w (AtEnd f) ss) (h ∷ d ∷ k ∷ xs))
-              (λ q x4 oq a4. parts text l.pieces (symbol_piece (codes ";") (codes "\n") ∷ []) (λ xs. ReadsLine (λ ss. SetsEnd text name w (AtEnd f) ss) (h ∷ d ∷ k ∷ q ∷ xs))
-                (λ us x5 b a5. one text (symbol_piece (codes ";") (codes "\n")) [] (λ xs. ReadsLine (λ ss. SetsEnd text name w (AtEnd f) ss) (h ∷ d ∷ k ∷ q ∷ (us ++ xs)))
-                  (λ z x6 oz a6. none text (λ xs. ReadsLine (λ ss. SetsEnd text name w (AtEnd f) ss) (h ∷ d ∷ k ∷ q ∷ (us ++ z ∷ xs))) (line text h d k q z us oh od ok oq b oz) x6 a6)
-                  x5 a5)
-                x4 a4)
-              x3 a3)
-            x2 a2)
-          x1 a1)
+        (λ d x2 od a2. one text (name_piece attribute (codes " ")) (symbol_piece (codes "=") (codes " ") ∷ (l.pieces ++ symbol_piece (codes ";") (codes "\n") ∷ [])) (λ xs. ReadsLine (λ ss. SetsEnd text name w (AtEnd f) ss) (h ∷ d ∷ xs))
+        (λ k x3 ok a3. one text (symbol_piece (codes "=") (codes " ")) (l.pieces ++ symbol_piece (codes ";") (codes "\n") ∷ []) (λ xs. ReadsLine (λ ss. SetsEnd text name w (AtEnd f) ss) (h ∷ d ∷ k ∷ xs))
+        (λ q x4 oq a4. parts text l.pieces (symbol_piece (codes ";") (codes "\n") ∷ []) (λ xs. ReadsLine (λ ss. SetsEnd text name w (AtEnd f) ss) (h ∷ d ∷ k ∷ q ∷ xs))
+        (λ us x5 b a5. one text (symbol_piece (codes ";") (codes "\n")) [] (λ xs. ReadsLine (λ ss. SetsEnd text name w (AtEnd f) ss) (h ∷ d ∷ k ∷ q ∷ (us ++ xs)))
+        (λ z x6 oz a6. none text (λ xs. ReadsLine (λ ss. SetsEnd text name w (AtEnd f) ss) (h ∷ d ∷ k ∷ q ∷ (us ++ z ∷ xs))) (line text h d k q z us oh od ok oq b oz) x6 a6)
+        x5 a5)
+        x4 a4)
+        x3 a3)
+        x2 a2)
+        x1 a1)
         ts x
 
 -- ---- all of them
@@ -235,6 +232,6 @@ bound_lines vs bytes (a_variable v more lows highs rest l h lines) f s =
     let sound = All-head SoundVariable v more s in
     both_lines (lows ++ highs) rest (λ text ss. SetsBoth text v ss) (λ text ss. AreBounds text more ss) (λ text ss. AreBounds text (v ∷ more) ss) (λ text ss others b m. joined text v more ss others b m)
     (both_lines lows highs (λ text ss. SetsEnd text v.name Low v.low ss) (λ text ss. SetsEnd text v.name High v.high ss) (λ text ss. SetsBoth text v ss) (λ text ss others b c. record { lows = ss; highs = others; is = refl; low_end = b; high_end = c })
-      (end_line v.name (codes "lo") (codes ".lo = ") Low v.low lows l free low sound.low)
-      (end_line v.name (codes "up") (codes ".up = ") High v.high highs h free high sound.high))
+    (end_line v.name (codes "lo") (codes ".lo = ") Low v.low lows l free low sound.low)
+    (end_line v.name (codes "up") (codes ".up = ") High v.high highs h free high sound.high))
     (bound_lines more rest lines (All-tail IsFree v.name (variable_names_of more) f) (All-tail SoundVariable v more s))

@@ -1,5 +1,5 @@
 -- What the statements of a printed model do, from no declaration on.
-use Rattle.std.proofs.Common.{◌≡◌, ℕ, zero, suc, ◌+◌, ◌<◌, ◌≤◌, Bool, true, false, cond, not, ◌&&◌, nat_lt, List, [], ◌∷◌, ◌++◌, map, length, All, Option, Some, None, Result, Ok, Err, slice_index_or, get_or, slice_set, set, refl, sym, ap, subst, ◌∙◌, arith, append_assoc}
+use Rattle.std.proofs.Common.{◌≡◌, ℕ, zero, suc, ◌+◌, ◌<◌, ◌≤◌, Bool, true, false, cond, List, [], ◌∷◌, ◌++◌, map, length, All, Option, Some, None, Ok, Err, slice_index_or, slice_set, refl, sym, ap, subst, ◌∙◌, arith, append_assoc}
 use Rattle.std.proofs.lemmas.Bool.{lt-ltb}
 use Rattle.std.proofs.lemmas.List.Elements.{All-head, All-tail}
 use Rattle.std.proofs.lemmas.List.{append-nil, length_push, get_or_at, set_at, length-map}
@@ -15,7 +15,7 @@ use Rattle.emp_ast.specs.declared.model.Variable.{Variable}
 use Rattle.emp_ast.specs.declared.model.Sense.{Sense}
 use Rattle.emp_ast.specs.declared.model.Model.{Model}
 use Rattle.emp_ast.specs.Expression.{nodes_from}
-use Rattle.emp_ast.specs.Names.{variable_names, equation_names, SameEquation, SameEquations, SameModel}
+use Rattle.emp_ast.specs.Names.{variable_names, equation_names, SameEquations, SameModel}
 use Rattle.emp_num.specs.declared.frac.Frac.{Frac}
 use Rattle.gms_read.specs.declared.lexeme.Word.{Word}
 use Rattle.gms_read.specs.declared.lexeme.Word.TheVariants.{Low, High}
@@ -26,15 +26,14 @@ use Rattle.gms_read.specs.declared.draft.Limit.{Limit}
 use Rattle.gms_read.specs.declared.draft.Limit.TheVariants.{Below, At, Above}
 use Rattle.gms_read.specs.declared.draft.DraftVariable.{DraftVariable}
 use Rattle.gms_read.specs.declared.draft.Draft.{Draft}
-use Rattle.gms_read.specs.declared.table.Named.{Named}
 use Rattle.gms_read.specs.declared.table.Named.TheVariants.{Variable as VariableName, Equation as EquationName, Model as ModelName}
 use Rattle.gms_read.specs.declared.fault.ModelFault.TheVariants.{Undeclared, TooLarge, BoundsCross}
 use Rattle.gms_read.specs.Lexemes.{spelling}
 use Rattle.gms_read.specs.Grammar.{Written, Statement, variables, equations, definition, setting, model, solve}
-use Rattle.gms_read.specs.Rules.{Step, and_then, or_else, is_model_entry, aim, aim_at, with_goal, add_model, finished, finish_by, whole_meaning, whole_meaning_by, entry_of, declared_as, declare_by, declare_variable, declare_equation, declare_all, add_variable, add_equation, no_tree, expression_fault, meaning, tree_of, define, after, after_all, nothing_yet, undefined_from, crossing_from, crosses, end_of, finished_variables, finish, equation_in, variable_in, with_definition, no_equation, set_by, set_variable, no_variable}
+use Rattle.gms_read.specs.Rules.{Step, and_then, or_else, is_model_entry, aim, aim_at, with_goal, add_model, finished, finish, finish_by, whole_meaning, whole_meaning_by, entry_of, declared_as, declare_by, declare_variable, declare_equation, declare_all, add_variable, add_equation, no_tree, expression_fault, meaning, tree_of, after, after_all, nothing_yet, undefined_from, crossing_from, end_of, finished_variables, variable_in, with_definition, no_equation, set_by, set_variable, no_variable}
 use Rattle.gms_print.proofs.ExpressionReads.{Knows}
 use Rattle.gms_print.proofs.Sound.{low_limit, high_limit, SoundVariable, SoundGoal, Sound, all_names}
-use Rattle.gms_print.proofs.Tables.{Entries, Leaves, Distinct, distinct, distinct_front, distinct_behind, MissAll, miss_none, miss_more, miss_front, table, finds_variables, finds_equations, entry_behind, entry_here, variable_entries, equation_entries, FindsVariables, FindsEquations, finds_more}
+use Rattle.gms_print.proofs.Tables.{Entries, Distinct, distinct, distinct_front, distinct_behind, MissAll, miss_none, miss_more, miss_front, table, finds_variables, finds_equations, entry_behind, entry_here, variable_entries, equation_entries, FindsVariables, FindsEquations, finds_more}
 
 -- ---- drafts
 -- no model and no objective yet
@@ -204,7 +203,7 @@ defined text known names vs j done flags (e ∷ es) (s ∷ ss) f p q h a =
       new = x ∷ rest.new;
       same = (record { name = refl; left = sym (def.left_means.means d k); right = sym (def.right_means.means d k); relation = refl }, rest.same);
       is = after_one text d (stage names vs ((done ++ x ∷ []) ++ more) ((flags ++ true ∷ []) ++ none)) (Ok (stage names vs (done ++ x ∷ rest.new) (flags ++ true ∷ all_true es))) s ss next
-      (rest.is ∙ (λ i. Ok (stage names vs (append_assoc done (x ∷ []) rest.new i) (append_assoc flags (true ∷ []) (all_true es) i))));
+          (rest.is ∙ (λ i. Ok (stage names vs (append_assoc done (x ∷ []) rest.new i) (append_assoc flags (true ∷ []) (all_true es) i))));
     }
 
 pub none_undefined : (k : ℕ) (es new : List Equation) → SameEquations es new → undefined_from k new (all_true es) ≡ None
@@ -233,7 +232,6 @@ low_set : (text name : List ℕ) (e : End) (ss : List Statement) → SetsEnd tex
     → after_all text (stage names (done ++ drafted name Below high ∷ rest) es flags) ss ≡ Ok (stage names (done ++ drafted name (low_limit e) high ∷ rest) es flags)
 low_set text name e ss sets_none names j done rest high es flags h p = refl
 low_set text name e ss (sets_end t a f n w) names j done rest high es flags h p =
-    let vs = done ++ drafted name Below high ∷ rest in
     let d : Draft = stage names (done ++ drafted name Below high ∷ rest) es flags in
     let entry : declared_as text d t ≡ Some (VariableName j) = ap (λ bs. entry_of names (lower bs)) n ∙ h in
     let here : slice_index_or (done ++ drafted name Below high ∷ rest) j no_variable ≡ drafted name Below high = get_or_at done (drafted name Below high) rest no_variable j p in
@@ -328,7 +326,7 @@ variables_stage text names ss no_variables d l = refl
 variables_stage text names ss (some_variables ns w ts e) d l =
     after_one text nothing_yet (stage (variable_entries 0 names) (map open_variable names) [] []) (Ok (stage (variable_entries 0 names) (map open_variable names) [] [])) (variables Free w ts) []
     (subst (λ xs. declare_all (declare_variable text Free) nothing_yet ts ≡ Ok (stage (variable_entries 0 xs) (map open_variable xs) [] [])) e
-      (declares_variables text ts [] [] (miss_none (map (spelling text) ts)) (subst Distinct (sym e) d) (omega (arith, l, ap length e, length-map ts (spelling text)))))
+    (declares_variables text ts [] [] (miss_none (map (spelling text) ts)) (subst Distinct (sym e) d) (omega (arith, l, ap length e, length-map ts (spelling text)))))
     refl
 
 equations_stage : (text : List ℕ) (names : List (List ℕ)) (ss : List Statement) → DeclaresEquations text names ss → (es : Entries) (vs : List DraftVariable) → MissAll es names → Distinct names → length names ≤ 512
@@ -337,7 +335,7 @@ equations_stage text names ss no_equations es vs m d l = λ i. Ok (stage (sym (a
 equations_stage text names ss (some_equations ns ts e) es vs m d l =
     after_one text (stage es vs [] []) (stage (es ++ equation_entries 0 names) vs (map empty_equation names) (not_defined names)) (Ok (stage (es ++ equation_entries 0 names) vs (map empty_equation names) (not_defined names))) (equations ts) []
     (subst (λ xs. declare_all (declare_equation text) (stage es vs [] []) ts ≡ Ok (stage (es ++ equation_entries 0 xs) vs (map empty_equation xs) (not_defined xs))) e
-      (declares_equations text ts es vs [] [] (subst (MissAll es) (sym e) m) (subst Distinct (sym e) d) (omega (arith, l, ap length e, length-map ts (spelling text)))))
+    (declares_equations text ts es vs [] [] (subst (MissAll es) (sym e) m) (subst Distinct (sym e) d) (omega (arith, l, ap length e, length-map ts (spelling text)))))
     refl
 
 model_stage : (text : List ℕ) (es : Entries) (vs : List DraftVariable) (eqs : List Equation) (flags : List Bool) (t : Lexeme) → entry_of es (lower (spelling text t)) ≡ None → after text (stage es vs eqs flags) (model t) ≡ Ok (add_model text (stage es vs eqs flags) t)
@@ -369,6 +367,9 @@ solve_stage text m new t goal e a g h f =
     let entry : declared_as text (with_goal (last_draft m new) None) t ≡ Some ModelName = ap (λ bs. entry_of (names ++ (lower m.name, ModelName) ∷ []) (lower bs)) e ∙ entry_behind names ((lower m.name, ModelName) ∷ []) (lower m.name) h ∙ entry_here [] (lower m.name) ModelName in
     let k : Knows (variable_names m) text (with_goal (last_draft m new) None) = knows (variable_names m) text d (finds_more names ((lower m.name, ModelName) ∷ []) (variable_names m) f) in
     ap (λ n. cond (is_model_entry n) (aim text d goal) (Err (Undeclared t.place))) entry ∙ aim_done text (variable_names m) d m.goal goal a g k
+
+finishes : (d : Draft) → undefined_from 0 d.equations d.defined ≡ None → crossing_from 0 d.variables ≡ None → finish d ≡ Ok (finished d)
+finishes d h k = ap (λ f. finish_by (or_else f (crossing_from 0 d.variables)) d) h ∙ ap (λ f. finish_by f d) k
 
 -- what a text with such statements stands for
 pub record MeansModel (m : Model) (text : List ℕ) (ss : List Statement) : Type 0 where
@@ -409,13 +410,12 @@ means_model m text ss s a =
     ap (after_all text nothing_yet) a.is
     ∙ after_then text nothing_yet d1 (Ok d6) a.declared_variables (a.declared_equations ++ (a.definitions ++ (a.bounds ++ model a.named ∷ solve a.solved a.goal ∷ []))) first
     (after_then text d1 d2 (Ok d6) a.declared_equations (a.definitions ++ (a.bounds ++ model a.named ∷ solve a.solved a.goal ∷ [])) second
-      (after_then text d2 d3 (Ok d6) a.definitions (a.bounds ++ model a.named ∷ solve a.solved a.goal ∷ []) def.is
-        (after_then text d3 d4 (Ok d6) a.bounds (model a.named ∷ solve a.solved a.goal ∷ []) fourth
-          (after_one text d4 d5 (Ok d6) (model a.named) (solve a.solved a.goal ∷ []) fifth
-            (after_one text d5 d6 (Ok d6) (solve a.solved a.goal) [] sixth refl))))) in
-    let none : or_else (undefined_from 0 d6.equations d6.defined) (crossing_from 0 d6.variables) ≡ None = ap (λ f. or_else f (crossing_from 0 (map bounded m.variables))) (none_undefined 0 m.equations def.new def.same) ∙ none_crossing 0 m.variables s.variables in
+    (after_then text d2 d3 (Ok d6) a.definitions (a.bounds ++ model a.named ∷ solve a.solved a.goal ∷ []) def.is
+    (after_then text d3 d4 (Ok d6) a.bounds (model a.named ∷ solve a.solved a.goal ∷ []) fourth
+    (after_one text d4 d5 (Ok d6) (model a.named) (solve a.solved a.goal ∷ []) fifth
+    (after_one text d5 d6 (Ok d6) (solve a.solved a.goal) [] sixth refl))))) in
     record {
       model = finished d6;
-      is = ap whole_meaning_by whole ∙ ap (λ f. finish_by f d6) none;
+      is = ap whole_meaning_by whole ∙ finishes d6 (none_undefined 0 m.equations def.new def.same) (none_crossing 0 m.variables s.variables);
       same = record { name = refl; variables = sym (bounds_finished m.variables); equations = def.same; goal = refl };
     }

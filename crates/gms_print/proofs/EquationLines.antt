@@ -1,5 +1,5 @@
 -- The lines that define the equations of a printed model.
-use Rattle.std.proofs.Common.{◌≡◌, ℕ, ◌+◌, ◌≤◌, Bool, true, false, List, [], ◌∷◌, ◌++◌, map, length, All, codes, slice_index, refl, sym, ap, subst, ◌∙◌, arith, append_assoc, append-nil, inl, inr}
+use Rattle.std.proofs.Common.{◌≡◌, ℕ, ◌≤◌, true, false, List, [], ◌∷◌, ◌++◌, length, All, codes, refl, sym, ap, subst, ◌∙◌, arith, append_assoc, append-nil, inl, inr}
 use Rattle.std.proofs.lemmas.List.Elements.{All-head, All-tail}
 use Rattle.emp_lex.specs.declared.token.TokenKind.TheVariants.{Relation as RelationKind}
 use Rattle.emp_lex.specs.Forms.{IsRelation}
@@ -16,7 +16,7 @@ use Rattle.gms_read.specs.Grammar.{Statement, definition, Sum, IsStatement, is_d
 use Rattle.gms_print.specs.Canonical.{Prints, relation_text, EquationLines, no_equations, an_equation}
 use Rattle.gms_print.proofs.Pieces.{Piece, rendered, IsOf, AreOf, SymbolEnds, Good, good_piece}
 use Rattle.gms_print.proofs.Sound.{IsFree, SoundExpression, depth, SoundTree, SoundEquation}
-use Rattle.gms_print.proofs.Effects.{Means, Defines, AreDefinitions, equation_names_of}
+use Rattle.gms_print.proofs.Effects.{Means, AreDefinitions, equation_names_of}
 use Rattle.gms_print.proofs.OneTree.{one_expression}
 use Rattle.gms_print.proofs.ExpressionReads.{NumeralsRead, StandsFor, ReadsExpression}
 use Rattle.gms_print.proofs.ExpressionPieces.{name_piece, symbol_piece, good_symbol, rendered_append}
@@ -118,7 +118,7 @@ definition_line names e t u free l r =
         let left_good = l.reads.good (codes " ") behind (relation_piece e.relation ∷ (r.reads.pieces [] ++ symbol_piece (codes ";") (codes "\n") ∷ more)) (inr (inl refl)) (record { word = refl; dot = refl }) relation_good in
         subst (λ ps. Good behind true ps) (sym (pieces_behind e.name (l.reads.pieces (codes " ")) e.relation (r.reads.pieces []) more))
         (good_word true e.name [] behind (symbol_piece (codes "..") (codes " ") ∷ (l.reads.pieces (codes " ") ++ relation_piece e.relation ∷ (r.reads.pieces [] ++ symbol_piece (codes ";") (codes "\n") ∷ more))) free.form (inl refl) refl
-          (good_symbol (codes "..") (codes " ") behind (l.reads.pieces (codes " ") ++ relation_piece e.relation ∷ (r.reads.pieces [] ++ symbol_piece (codes ";") (codes "\n") ∷ more)) (inr (inl refl)) (inr (inl refl)) (dots_end (codes " " ++ rendered (l.reads.pieces (codes " ") ++ relation_piece e.relation ∷ (r.reads.pieces [] ++ symbol_piece (codes ";") (codes "\n") ∷ more)) ++ behind)) left_good))
+        (good_symbol (codes "..") (codes " ") behind (l.reads.pieces (codes " ") ++ relation_piece e.relation ∷ (r.reads.pieces [] ++ symbol_piece (codes ";") (codes "\n") ∷ more)) (inr (inl refl)) (inr (inl refl)) (dots_end (codes " " ++ rendered (l.reads.pieces (codes " ") ++ relation_piece e.relation ∷ (r.reads.pieces [] ++ symbol_piece (codes ";") (codes "\n") ∷ more)) ++ behind)) left_good))
 
     line : (text : List ℕ) (h d k z : Lexeme) (us vs : List Lexeme) → IsOf text (name_piece e.name []) h → IsOf text (symbol_piece (codes "..") (codes " ")) d → StandsFor names Sum (depth l.expression) l.expression text us → IsOf text (relation_piece e.relation) k → StandsFor names Sum (depth r.expression) r.expression text vs → IsOf text (symbol_piece (codes ";") (codes "\n")) z
         → ReadsLine (λ ss. AreDefinitions names text (e ∷ []) ss) (h ∷ d ∷ (us ++ k ∷ (vs ++ z ∷ [])))
@@ -128,33 +128,33 @@ definition_line names e t u free l r =
         record {
           statement = definition h a.written e.relation b.written;
           stands = subst (λ xs. IsStatement (h ∷ d ∷ xs) (definition h a.written e.relation b.written)) (append_assoc us (k ∷ vs) (z ∷ []))
-          (is_definition h d k z e.relation us vs a.written b.written (free.word, named) od.sort a.stands related b.stands oz.sort);
+              (is_definition h d k z e.relation us vs a.written b.written (free.word, named) od.sort a.stands related b.stands oz.sort);
           are = (record { head = h; left = a.written; right = b.written; is = refl; spelled = oh.bytes; left_means = means names text e.left t us l a; right_means = means names text e.right u vs r b }, tt);
           level = λ ws.
-            flat h (Name free.word) (d ∷ (us ++ k ∷ (vs ++ z ∷ [])) ++ ws) named refl
-            ∙ flat d Dots ((us ++ k ∷ (vs ++ z ∷ [])) ++ ws) od.sort refl
-            ∙ ap (too_deep_from 0) (append_assoc us (k ∷ (vs ++ z ∷ [])) ws)
-            ∙ a.shallow 0 (k ∷ (vs ++ z ∷ []) ++ ws) (omega (arith, l.shallow))
-            ∙ flat k (Related e.relation) ((vs ++ z ∷ []) ++ ws) related refl
-            ∙ ap (too_deep_from 0) (append_assoc vs (z ∷ []) ws)
-            ∙ b.shallow 0 (z ∷ ws) (omega (arith, r.shallow))
-            ∙ flat z Semicolon ws oz.sort refl;
+              flat h (Name free.word) (d ∷ (us ++ k ∷ (vs ++ z ∷ [])) ++ ws) named refl
+              ∙ flat d Dots ((us ++ k ∷ (vs ++ z ∷ [])) ++ ws) od.sort refl
+              ∙ ap (too_deep_from 0) (append_assoc us (k ∷ (vs ++ z ∷ [])) ws)
+              ∙ a.shallow 0 (k ∷ (vs ++ z ∷ []) ++ ws) (omega (arith, l.shallow))
+              ∙ flat k (Related e.relation) ((vs ++ z ∷ []) ++ ws) related refl
+              ∙ ap (too_deep_from 0) (append_assoc vs (z ∷ []) ws)
+              ∙ b.shallow 0 (z ∷ ws) (omega (arith, r.shallow))
+              ∙ flat z Semicolon ws oz.sort refl;
         }
 
     reads : (text : List ℕ) (ts : List Lexeme) → AreOf text (line_pieces e.name (l.reads.pieces (codes " ")) e.relation (r.reads.pieces [])) ts → ReadsLine (λ ss. AreDefinitions names text (e ∷ []) ss) ts
     reads text ts x =
         one text (name_piece e.name []) (symbol_piece (codes "..") (codes " ") ∷ (l.reads.pieces (codes " ") ++ relation_piece e.relation ∷ (r.reads.pieces [] ++ symbol_piece (codes ";") (codes "\n") ∷ []))) (ReadsLine (λ ss. AreDefinitions names text (e ∷ []) ss))
         (λ h x1 oh a1. one text (symbol_piece (codes "..") (codes " ")) (l.reads.pieces (codes " ") ++ relation_piece e.relation ∷ (r.reads.pieces [] ++ symbol_piece (codes ";") (codes "\n") ∷ [])) (λ xs. ReadsLine (λ ss. AreDefinitions names text (e ∷ []) ss) (h ∷ xs))
-          (λ d x2 od a2. parts text (l.reads.pieces (codes " ")) (relation_piece e.relation ∷ (r.reads.pieces [] ++ symbol_piece (codes ";") (codes "\n") ∷ [])) (λ xs. ReadsLine (λ ss. AreDefinitions names text (e ∷ []) ss) (h ∷ d ∷ xs))
-            (λ us x3 b a3. one text (relation_piece e.relation) (r.reads.pieces [] ++ symbol_piece (codes ";") (codes "\n") ∷ []) (λ xs. ReadsLine (λ ss. AreDefinitions names text (e ∷ []) ss) (h ∷ d ∷ (us ++ xs)))
-              (λ k x4 ok a4. parts text (r.reads.pieces []) (symbol_piece (codes ";") (codes "\n") ∷ []) (λ xs. ReadsLine (λ ss. AreDefinitions names text (e ∷ []) ss) (h ∷ d ∷ (us ++ k ∷ xs)))
-                (λ vs x5 c a5. one text (symbol_piece (codes ";") (codes "\n")) [] (λ xs. ReadsLine (λ ss. AreDefinitions names text (e ∷ []) ss) (h ∷ d ∷ (us ++ k ∷ (vs ++ xs))))
-                  (λ z x6 oz a6. none text (λ xs. ReadsLine (λ ss. AreDefinitions names text (e ∷ []) ss) (h ∷ d ∷ (us ++ k ∷ (vs ++ z ∷ xs)))) (line text h d k z us vs oh od (l.reads.stands (codes " ") text us b) ok (r.reads.stands [] text vs c) oz) x6 a6)
-                  x5 a5)
-                x4 a4)
-              x3 a3)
-            x2 a2)
-          x1 a1)
+        (λ d x2 od a2. parts text (l.reads.pieces (codes " ")) (relation_piece e.relation ∷ (r.reads.pieces [] ++ symbol_piece (codes ";") (codes "\n") ∷ [])) (λ xs. ReadsLine (λ ss. AreDefinitions names text (e ∷ []) ss) (h ∷ d ∷ xs))
+        (λ us x3 b a3. one text (relation_piece e.relation) (r.reads.pieces [] ++ symbol_piece (codes ";") (codes "\n") ∷ []) (λ xs. ReadsLine (λ ss. AreDefinitions names text (e ∷ []) ss) (h ∷ d ∷ (us ++ xs)))
+        (λ k x4 ok a4. parts text (r.reads.pieces []) (symbol_piece (codes ";") (codes "\n") ∷ []) (λ xs. ReadsLine (λ ss. AreDefinitions names text (e ∷ []) ss) (h ∷ d ∷ (us ++ k ∷ xs)))
+        (λ vs x5 c a5. one text (symbol_piece (codes ";") (codes "\n")) [] (λ xs. ReadsLine (λ ss. AreDefinitions names text (e ∷ []) ss) (h ∷ d ∷ (us ++ k ∷ (vs ++ xs))))
+        (λ z x6 oz a6. none text (λ xs. ReadsLine (λ ss. AreDefinitions names text (e ∷ []) ss) (h ∷ d ∷ (us ++ k ∷ (vs ++ z ∷ xs)))) (line text h d k z us vs oh od (l.reads.stands (codes " ") text us b) ok (r.reads.stands [] text vs c) oz) x6 a6)
+        x5 a5)
+        x4 a4)
+        x3 a3)
+        x2 a2)
+        x1 a1)
         ts x
 
 -- ---- all of them

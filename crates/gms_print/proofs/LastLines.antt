@@ -1,5 +1,5 @@
 -- The last two lines of a printed model, and files that end with them.
-use Rattle.std.proofs.Common.{◌≡◌, ℕ, ◌<◌, Bool, true, false, List, [], ◌∷◌, ◌++◌, length, All, codes, slice_index, slice_index_or, Option, Some, None, refl, sym, ap, subst, ◌∙◌, arith, append_assoc, append-nil, inl, inr}
+use Rattle.std.proofs.Common.{◌≡◌, ℕ, true, false, List, [], ◌∷◌, ◌++◌, length, All, codes, slice_index, slice_index_or, Option, Some, None, refl, ap, subst, ◌∙◌, append_assoc, append-nil, inl, inr}
 use Rattle.emp_ast.specs.declared.tree.VarId.{VarId}
 use Rattle.emp_ast.specs.declared.model.Sense.{Sense}
 use Rattle.emp_ast.specs.declared.model.Sense.TheVariants.{Min, Max}
@@ -10,11 +10,11 @@ use Rattle.gms_read.specs.declared.lexeme.Word.TheVariants.{All as AllWord, Usin
 use Rattle.gms_read.specs.declared.lexeme.Scale.TheVariants.{Over}
 use Rattle.gms_read.specs.declared.lexeme.Sort.TheVariants.{Name, Model as ModelSort, Solve as SolveSort, Scale, Semicolon}
 use Rattle.gms_read.specs.declared.lexeme.Lexeme.{Lexeme}
-use Rattle.gms_read.specs.Lexemes.{spelling, word_sort}
+use Rattle.gms_read.specs.Lexemes.{spelling}
 use Rattle.gms_read.specs.Nesting.{too_deep_from}
-use Rattle.gms_read.specs.Grammar.{Statement, model, solve, bare, IsStatement, is_model, IsGoal, no_goal, least, greatest, IsSolve, is_solve, AreSemicolons, none as no_semicolons, IsFile, last}
+use Rattle.gms_read.specs.Grammar.{Statement, model, solve, bare, is_model, IsGoal, no_goal, least, greatest, is_solve, none as no_semicolons, IsFile, last}
 use Rattle.gms_print.specs.Canonical.{goal_text}
-use Rattle.gms_print.proofs.Pieces.{Piece, rendered, IsOf, AreOf, IsGap, ends_line, SymbolEnds, Good, good_end}
+use Rattle.gms_print.proofs.Pieces.{Piece, rendered, IsOf, AreOf, IsGap, ends_line, Good, good_end}
 use Rattle.gms_print.proofs.Sound.{IsFree, SoundGoal}
 use Rattle.gms_print.proofs.Effects.{Aims}
 use Rattle.gms_print.proofs.ExpressionPieces.{name_piece, symbol_piece, good_symbol, ends_alone, rendered_append}
@@ -66,9 +66,6 @@ pub record NamesModel (text name : List ℕ) (ss : List Statement) : Type 0 wher
   pub is : ss ≡ model lexeme ∷ []
   pub spelled : spelling text lexeme ≡ name
 
-abbrev slash_piece : List ℕ → Piece
-slash_piece gap = symbol_piece (codes "/") gap
-
 good_slash : (gap behind : List ℕ) (more : List Piece) → IsGap gap → Good behind (ends_line gap) more → Good behind false (symbol_piece (codes "/") gap ∷ more)
 good_slash gap behind more g m = good_symbol (codes "/") gap behind more (inr (inr (47, refl, refl))) g (ends_alone (codes "/") (gap ++ rendered more ++ behind) refl refl refl) m
 
@@ -97,12 +94,12 @@ model_line name free =
           stands = is_model m a b c z (t ∷ []) t om.sort (bare t (free.word, named)) oa.sort ob.sort oc.sort oz.sort;
           are = record { lexeme = t; is = refl; spelled = ot.bytes };
           level = λ us.
-            flat m ModelSort (t ∷ a ∷ b ∷ c ∷ z ∷ us) om.sort refl
-            ∙ flat t (Name free.word) (a ∷ b ∷ c ∷ z ∷ us) named refl
-            ∙ flat a (Scale Over) (b ∷ c ∷ z ∷ us) oa.sort refl
-            ∙ flat b (Name AllWord) (c ∷ z ∷ us) ob.sort refl
-            ∙ flat c (Scale Over) (z ∷ us) oc.sort refl
-            ∙ flat z Semicolon us oz.sort refl;
+              flat m ModelSort (t ∷ a ∷ b ∷ c ∷ z ∷ us) om.sort refl
+              ∙ flat t (Name free.word) (a ∷ b ∷ c ∷ z ∷ us) named refl
+              ∙ flat a (Scale Over) (b ∷ c ∷ z ∷ us) oa.sort refl
+              ∙ flat b (Name AllWord) (c ∷ z ∷ us) ob.sort refl
+              ∙ flat c (Scale Over) (z ∷ us) oc.sort refl
+              ∙ flat z Semicolon us oz.sort refl;
         }
 
     reads : (text : List ℕ) (ts : List Lexeme) → AreOf text (model_pieces name []) ts → ReadsLine (λ ss. NamesModel text name ss) ts
@@ -219,14 +216,14 @@ solve_line name names g free all_free h = ends (goal_pieces names g all_free h)
     ends p = record {
       pieces = solve_pieces name p.gap (p.pieces ++ symbol_piece (codes ";") (codes "\n") ∷ []);
       is =
-        ap (λ x. codes "Solve " ++ (name ++ codes " " ++ (codes "using " ++ (codes "EMP" ++ p.gap ++ x)))) (rendered_append p.pieces (symbol_piece (codes ";") (codes "\n") ∷ []))
-        ∙ solve_bytes (codes "Solve ") name (codes " ") (codes "using ") (codes "EMP") p.gap (rendered p.pieces) (codes ";\n")
-        ∙ ap (λ x. codes "Solve " ++ name ++ codes " using EMP" ++ x ++ codes ";\n") p.is;
+          ap (λ x. codes "Solve " ++ (name ++ codes " " ++ (codes "using " ++ (codes "EMP" ++ p.gap ++ x)))) (rendered_append p.pieces (symbol_piece (codes ";") (codes "\n") ∷ []))
+          ∙ solve_bytes (codes "Solve ") name (codes " ") (codes "using ") (codes "EMP") p.gap (rendered p.pieces) (codes ";\n")
+          ∙ ap (λ x. codes "Solve " ++ name ++ codes " using EMP" ++ x ++ codes ";\n") p.is;
       good =
-        good_word true (codes "Solve") (codes " ") [] (name_piece name (codes " ") ∷ name_piece (codes "using") (codes " ") ∷ name_piece (codes "EMP") p.gap ∷ (p.pieces ++ symbol_piece (codes ";") (codes "\n") ∷ [])) (is_name (codes "Solve") refl refl refl) (inr (inl refl)) refl
-        (good_word false name (codes " ") [] (name_piece (codes "using") (codes " ") ∷ name_piece (codes "EMP") p.gap ∷ (p.pieces ++ symbol_piece (codes ";") (codes "\n") ∷ [])) free.form (inr (inl refl)) refl
+          good_word true (codes "Solve") (codes " ") [] (name_piece name (codes " ") ∷ name_piece (codes "using") (codes " ") ∷ name_piece (codes "EMP") p.gap ∷ (p.pieces ++ symbol_piece (codes ";") (codes "\n") ∷ [])) (is_name (codes "Solve") refl refl refl) (inr (inl refl)) refl
+          (good_word false name (codes " ") [] (name_piece (codes "using") (codes " ") ∷ name_piece (codes "EMP") p.gap ∷ (p.pieces ++ symbol_piece (codes ";") (codes "\n") ∷ [])) free.form (inr (inl refl)) refl
           (good_word false (codes "using") (codes " ") [] (name_piece (codes "EMP") p.gap ∷ (p.pieces ++ symbol_piece (codes ";") (codes "\n") ∷ [])) (is_name (codes "using") refl refl refl) (inr (inl refl)) refl
-            (good_word false (codes "EMP") p.gap [] (p.pieces ++ symbol_piece (codes ";") (codes "\n") ∷ []) (is_name (codes "EMP") refl refl refl) p.is_gap p.begins p.good)));
+          (good_word false (codes "EMP") p.gap [] (p.pieces ++ symbol_piece (codes ";") (codes "\n") ∷ []) (is_name (codes "EMP") refl refl refl) p.is_gap p.begins p.good)));
       reads = λ text ts x. reads text ts x;
     }
       where
@@ -238,14 +235,14 @@ solve_line name names g free all_free h = ends (goal_pieces names g all_free h)
               statements = solve t r.goal ∷ [];
               are = record { lexeme = t; goal = r.goal; is = refl; spelled = ot.bytes; aims = r.aims };
               file = subst (λ xs. IsFile xs (solve t r.goal ∷ [])) (append-nil (k ∷ t ∷ u ∷ e ∷ (us ++ z ∷ [])))
-              (last (k ∷ t ∷ u ∷ e ∷ us ++ z ∷ []) [] (solve t r.goal) (is_solve k t u e z us r.goal ok.sort (free.word, named) ou.sort oe.sort r.stands oz.sort) no_semicolons);
+                  (last (k ∷ t ∷ u ∷ e ∷ us ++ z ∷ []) [] (solve t r.goal) (is_solve k t u e z us r.goal ok.sort (free.word, named) ou.sort oe.sort r.stands oz.sort) no_semicolons);
               level =
-                flat k SolveSort (t ∷ u ∷ e ∷ (us ++ z ∷ [])) ok.sort refl
-                ∙ flat t (Name free.word) (u ∷ e ∷ (us ++ z ∷ [])) named refl
-                ∙ flat u (Name Using) (e ∷ (us ++ z ∷ [])) ou.sort refl
-                ∙ flat e (Name Emp) (us ++ z ∷ []) oe.sort refl
-                ∙ r.level (z ∷ [])
-                ∙ flat z Semicolon [] oz.sort refl;
+                  flat k SolveSort (t ∷ u ∷ e ∷ (us ++ z ∷ [])) ok.sort refl
+                  ∙ flat t (Name free.word) (u ∷ e ∷ (us ++ z ∷ [])) named refl
+                  ∙ flat u (Name Using) (e ∷ (us ++ z ∷ [])) ou.sort refl
+                  ∙ flat e (Name Emp) (us ++ z ∷ []) oe.sort refl
+                  ∙ r.level (z ∷ [])
+                  ∙ flat z Semicolon [] oz.sort refl;
             }
 
         tail : (text : List ℕ) (k t u e : Lexeme) (ts : List Lexeme) → IsOf text (name_piece (codes "Solve") (codes " ")) k → IsOf text (name_piece name (codes " ")) t → IsOf text (name_piece (codes "using") (codes " ")) u → IsOf text (name_piece (codes "EMP") p.gap) e → AreOf text (p.pieces ++ symbol_piece (codes ";") (codes "\n") ∷ []) ts
@@ -253,8 +250,8 @@ solve_line name names g free all_free h = ends (goal_pieces names g all_free h)
         tail text k t u e ts ok ot ou oe x =
             parts text p.pieces (symbol_piece (codes ";") (codes "\n") ∷ []) (λ xs. ReadsFile (λ ss. Solves text name names g ss) (k ∷ t ∷ u ∷ e ∷ xs))
             (λ us vs a b. one text (symbol_piece (codes ";") (codes "\n")) [] (λ xs. ReadsFile (λ ss. Solves text name names g ss) (k ∷ t ∷ u ∷ e ∷ (us ++ xs)))
-              (λ z ws oz c. none text (λ xs. ReadsFile (λ ss. Solves text name names g ss) (k ∷ t ∷ u ∷ e ∷ (us ++ z ∷ xs))) (file text k t u e z us ok ot ou oe (p.reads text us a) oz) ws c)
-              vs b)
+            (λ z ws oz c. none text (λ xs. ReadsFile (λ ss. Solves text name names g ss) (k ∷ t ∷ u ∷ e ∷ (us ++ z ∷ xs))) (file text k t u e z us ok ot ou oe (p.reads text us a) oz) ws c)
+            vs b)
             ts x
 
         reads : (text : List ℕ) (ts : List Lexeme) → AreOf text (solve_pieces name p.gap (p.pieces ++ symbol_piece (codes ";") (codes "\n") ∷ [])) ts → ReadsFile (λ ss. Solves text name names g ss) ts

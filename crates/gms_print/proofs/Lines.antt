@@ -1,21 +1,18 @@
 -- Lines of printed models, as pieces, and the statements for which their lexemes stand.
-use Rattle.std.proofs.Common.{◌≡◌, ℕ, ◌+◌, Bool, true, false, cond, nat_eq, nat_lt, IsTrue, List, [], ◌∷◌, ◌++◌, map, length, All, codes, slice_index, Option, Some, None, refl, sym, ap, subst, ◌∙◌, arith, append_assoc, append-nil, inl, inr}
-use Rattle.std.proofs.lemmas.List.Elements.{All-head, All-tail, All-nil, All-cons}
-use Rattle.std.proofs.lemmas.List.{same_from_push}
-use Rattle.emp_lex.specs.declared.token.TokenKind.TheVariants.{Name, Relation, Symbol}
+use Rattle.std.proofs.Common.{◌≡◌, ℕ, Bool, true, false, cond, nat_lt, List, [], ◌∷◌, ◌++◌, map, All, codes, slice_index, Some, refl, sym, ap, subst, ◌∙◌, append_assoc, append-nil, inl, inr}
+use Rattle.std.proofs.lemmas.List.Elements.{All-head, All-tail}
 use Rattle.emp_lex.specs.declared.scan.Class.TheVariants.{Word}
 use Rattle.emp_lex.specs.Bytes.{is_of}
-use Rattle.emp_lex.specs.Forms.{IsName, IsSymbol}
+use Rattle.emp_lex.specs.Forms.{IsName}
 use Rattle.gms_read.specs.declared.lexeme.Sort.{Sort}
 use Rattle.gms_read.specs.declared.lexeme.Sort.TheVariants.{Name as NameSort, Semicolon, Comma}
 use Rattle.gms_read.specs.declared.lexeme.Lexeme.{Lexeme}
-use Rattle.gms_read.specs.Lexemes.{spelling, word_sort, symbol_sort}
+use Rattle.gms_read.specs.Lexemes.{spelling}
 use Rattle.gms_read.specs.Nesting.{level_behind, too_deep_from}
-use Rattle.gms_read.specs.Grammar.{Statement, IsEntry, bare, AreNames, first, next_behind_comma, IsStatement, IsFile, then}
+use Rattle.gms_read.specs.Grammar.{Statement, bare, AreNames, next_behind_comma, IsStatement, IsFile, then}
 use Rattle.gms_print.specs.Canonical.{more_names}
 use Rattle.gms_print.proofs.Pieces.{Piece, rendered, IsOf, AreOf, IsGap, ends_line, Good, good_piece}
 use Rattle.gms_print.proofs.Sound.{IsFree}
-use Rattle.gms_print.proofs.ExpressionReads.{EndsOperand}
 use Rattle.gms_print.proofs.ExpressionPieces.{name_piece, symbol_piece, good_symbol, ends_alone, rendered_append}
 
 -- ---- lexemes of pieces, one after another
@@ -95,8 +92,8 @@ both_lines a b F G H join l k = record {
       statements = x.statements ++ y.statements;
       are = join text x.statements y.statements x.are y.are;
       file = λ ws rest f.
-        subst (λ ts. IsFile ts (x.statements ++ y.statements ++ rest)) (sym (append_assoc us vs ws))
-        (subst (λ ss. IsFile (us ++ (vs ++ ws)) ss) (sym (append_assoc x.statements y.statements rest)) (x.file (vs ++ ws) (y.statements ++ rest) (y.file ws rest f)));
+          subst (λ ts. IsFile ts (x.statements ++ y.statements ++ rest)) (sym (append_assoc us vs ws))
+          (subst (λ ss. IsFile (us ++ (vs ++ ws)) ss) (sym (append_assoc x.statements y.statements rest)) (x.file (vs ++ ws) (y.statements ++ rest) (y.file ws rest f)));
       level = λ ws. ap (too_deep_from 0) (append_assoc us vs ws) ∙ x.level (vs ++ ws) ∙ y.level ws;
     }
 
@@ -138,16 +135,16 @@ pub more_read : (text : List ℕ) (ns : List (List ℕ)) → All IsFree ns → (
 more_read text [] free front seen r ts h =
     one text (symbol_piece (codes ";") (codes "\n")) [] (MoreRead text [] front seen)
     (λ z us o a. none text (λ xs. MoreRead text [] front seen (z ∷ xs))
-      (record {
-        back = [];
-        names = [];
-        z = z;
-        is = refl;
-        ends = o.sort;
-        are = subst (λ ts. AreNames ts (seen ++ [])) (sym (append-nil front)) (subst (λ ts. AreNames front ts) (sym (append-nil seen)) r);
-        spelled = refl;
-        level = λ vs. flat z Semicolon vs o.sort refl;
-      }) us a)
+    (record {
+      back = [];
+      names = [];
+      z = z;
+      is = refl;
+      ends = o.sort;
+      are = subst (λ ts. AreNames ts (seen ++ [])) (sym (append-nil front)) (subst (λ ts. AreNames front ts) (sym (append-nil seen)) r);
+      spelled = refl;
+      level = λ vs. flat z Semicolon vs o.sort refl;
+    }) us a)
     ts h
 more_read text (n ∷ ns) free front seen r ts h =
     one text (symbol_piece (codes ",") (codes " ")) (name_piece n [] ∷ more_pieces ns) (MoreRead text (n ∷ ns) front seen)

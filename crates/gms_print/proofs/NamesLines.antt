@@ -1,5 +1,5 @@
 -- The lines that declare the names of a printed model.
-use Rattle.std.proofs.Common.{◌≡◌, ℕ, Bool, true, false, ◌&&◌, nat_le, IsTrue, List, [], ◌∷◌, ◌++◌, map, length, All, codes, slice_index, refl, sym, ap, subst, ◌∙◌, arith, append_assoc, inl, inr}
+use Rattle.std.proofs.Common.{◌≡◌, ℕ, Bool, true, false, ◌&&◌, nat_le, IsTrue, List, [], ◌∷◌, ◌++◌, map, length, All, codes, slice_index, refl, sym, ap, subst, ◌∙◌, arith, inl, inr}
 use Rattle.std.proofs.lemmas.Bool.{and_parts}
 use Rattle.std.proofs.lemmas.Bool.Decides.{nat_tests}
 use Rattle.std.proofs.lemmas.List.Elements.{All-head, All-tail, All-nil, All-cons}
@@ -12,7 +12,7 @@ use Rattle.gms_read.specs.declared.lexeme.Sort.TheVariants.{Name, Variables, Equ
 use Rattle.gms_read.specs.declared.lexeme.Lexeme.{Lexeme}
 use Rattle.gms_read.specs.Lexemes.{spelling, word_sort}
 use Rattle.gms_read.specs.Nesting.{level_behind, too_deep_from}
-use Rattle.gms_read.specs.Grammar.{Statement, variables, equations, IsStatement, bare, AreNames, first, is_variables, is_equations}
+use Rattle.gms_read.specs.Grammar.{variables, equations, IsStatement, bare, AreNames, first, is_variables, is_equations}
 use Rattle.gms_print.specs.Canonical.{more_names, names_line}
 use Rattle.gms_print.proofs.Pieces.{Piece, rendered, IsOf, AreOf, Good}
 use Rattle.gms_print.proofs.Sound.{IsFree}

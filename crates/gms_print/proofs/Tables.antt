@@ -1,9 +1,9 @@
 -- The names of a model in its table, and how each is found there.
-use Rattle.std.proofs.Common.{◌≡◌, ◌≢◌, ℕ, zero, suc, ◌+◌, ◌<◌, Bool, true, false, cond, bytes_eq, List, [], ◌∷◌, ◌++◌, length, AllPairs, Option, Some, None, slice_index_or, get_or, refl, sym, ap, subst, ◌∙◌, arith}
+use Rattle.std.proofs.Common.{◌≡◌, ◌≢◌, ℕ, zero, suc, ◌+◌, ◌<◌, Bool, true, false, cond, bytes_eq, List, [], ◌∷◌, ◌++◌, length, AllPairs, Option, Some, None, slice_index_or, get_or, refl, ap, ◌∙◌, arith}
 use Rattle.std.proofs.lemmas.Slice.Eq.{bytes_eq-Decides}
 use Rattle.emp_list.specs.Case.{lower}
 use Rattle.gms_read.specs.declared.table.Named.{Named}
-use Rattle.gms_read.specs.declared.table.Named.TheVariants.{Variable as VariableName, Equation as EquationName, Model as ModelName}
+use Rattle.gms_read.specs.declared.table.Named.TheVariants.{Variable as VariableName, Equation as EquationName}
 use Rattle.gms_read.specs.Rules.{entry_of}
 
 abbrev pub Entries : Type 0
@@ -58,10 +58,6 @@ is_false false h = refl
 
 other_key : (a b : List ℕ) → a ≢ b → bytes_eq a b ≡ false
 other_key a b h = is_false (bytes_eq a b) (λ e. h ((bytes_eq-Decides a b).0 e))
-
-
-
-
 
 miss_behind : (b : Bool) (v : Named) (x y z : Option Named) → cond b (Some v) x ≡ None → (x ≡ None → y ≡ z) → cond b (Some v) y ≡ z
 miss_behind true v x y z h f = absurd (cc)

@@ -1,18 +1,17 @@
 -- The canonical text of a model stands for it, places aside.
-use Rattle.std.proofs.Common.{◌≡◌, ℕ, ◌+◌, ◌<◌, List, [], ◌∷◌, ◌++◌, map, length, All, codes, get_or, Ok, refl, sym, ap, subst, ◌∙◌, arith, append_assoc}
+use Rattle.std.proofs.Common.{◌≡◌, ℕ, ◌+◌, List, [], ◌∷◌, ◌++◌, length, All, codes, refl, sym, ap, subst, ◌∙◌, arith, append_assoc}
 use Rattle.std.proofs.lemmas.List.{length-append, length-map, get_or_append_left, get_or-append-add}
 use Rattle.emp_ast.specs.declared.model.Model.{Model}
 use Rattle.emp_ast.specs.Names.{variable_names, equation_names}
 use Rattle.gms_read.specs.declared.lexeme.Lexeme.{Lexeme}
-use Rattle.gms_read.specs.Grammar.{Statement, model, solve}
+use Rattle.gms_read.specs.Grammar.{Statement}
 use Rattle.gms_read.specs.Texts.{HasLexemes}
-use Rattle.gms_print.specs.Canonical.{names_line, goal_text, last_lines, IsCanonical}
+use Rattle.gms_print.specs.Canonical.{names_line, goal_text, IsCanonical}
 use Rattle.gms_print.specs.ReadsBack.{ReadsBack}
-use Rattle.gms_print.proofs.Pieces.{rendered, AreOf}
-use Rattle.gms_print.proofs.Sound.{IsFree, SoundEquation, SoundGoal, Sound, all_names}
-use Rattle.gms_print.proofs.Effects.{DeclaresVariables, DeclaresEquations, AreDefinitions, AreBounds, AreStatements, MeansModel, means_model}
+use Rattle.gms_print.proofs.Pieces.{rendered}
+use Rattle.gms_print.proofs.Sound.{IsFree, SoundEquation, SoundGoal, Sound}
+use Rattle.gms_print.proofs.Effects.{DeclaresVariables, DeclaresEquations, AreDefinitions, AreBounds, AreStatements, means_model}
 use Rattle.gms_print.proofs.Cutting.{cut}
-use Rattle.gms_print.proofs.Lines.{Lines}
 use Rattle.gms_print.proofs.NamesLines.{variables_line, equations_line}
 use Rattle.gms_print.proofs.EquationLines.{definition_lines}
 use Rattle.gms_print.proofs.BoundLines.{numerals_read, bound_lines}
@@ -30,12 +29,12 @@ abbrev pub Parts : Model → List ℕ → List Statement → Type 0
 Parts m text ss =
     Before (λ ss. DeclaresVariables text (variable_names m) ss)
     (λ ss. Before (λ ss. DeclaresEquations text (equation_names m) ss)
-      (λ ss. Before (λ ss. AreDefinitions (variable_names m) text m.equations ss)
-        (λ ss. Before (λ ss. AreBounds text m.variables ss)
-          (λ ss. Before (λ ss. NamesModel text m.name ss) (λ ss. Solves text m.name (variable_names m) m.goal ss) ss)
-          ss)
-        ss)
-      ss)
+    (λ ss. Before (λ ss. AreDefinitions (variable_names m) text m.equations ss)
+    (λ ss. Before (λ ss. AreBounds text m.variables ss)
+    (λ ss. Before (λ ss. NamesModel text m.name ss) (λ ss. Solves text m.name (variable_names m) m.goal ss) ss)
+    ss)
+    ss)
+    ss)
     ss
 
 statements : (m : Model) (text : List ℕ) (ss : List Statement) → Parts m text ss → AreStatements m text ss
@@ -60,8 +59,8 @@ statements m text ss p =
       solves = t.are_back.spelled;
       aims = t.are_back.aims;
       is =
-        p.is
-        ∙ ap (λ x. p.front ++ x) (q.is ∙ ap (λ x. q.front ++ x) (r.is ∙ ap (λ x. r.front ++ x) (s.is ∙ ap (λ x. s.front ++ x) (t.is ∙ (λ i. t.are_front.is i ++ t.are_back.is i)))));
+          p.is
+          ∙ ap (λ x. p.front ++ x) (q.is ∙ ap (λ x. q.front ++ x) (r.is ∙ ap (λ x. r.front ++ x) (s.is ∙ ap (λ x. s.front ++ x) (t.is ∙ (λ i. t.are_front.is i ++ t.are_back.is i)))));
     }
 
 text_bytes : (v e q b model_word name all solve_word using_ goal end : List ℕ) → v ++ (e ++ (q ++ (b ++ (model_word ++ name ++ all ++ (solve_word ++ name ++ using_ ++ goal ++ end))))) ≡ v ++ e ++ q ++ b ++ (model_word ++ name ++ (all ++ solve_word) ++ name ++ using_ ++ goal ++ end)
@@ -83,15 +82,15 @@ ends m text s c =
     (λ t ss. Before (λ ss. DeclaresEquations t (equation_names m) ss) (λ ss. Before (λ ss. AreDefinitions (variable_names m) t m.equations ss) (λ ss. Before (λ ss. AreBounds t m.variables ss) (λ ss. Before (λ ss. NamesModel t m.name ss) (λ ss. Solves t m.name (variable_names m) m.goal ss) ss) ss) ss) ss)
     (variables_line vs free_variables)
     (before (names_line (codes "Equations ") es) (c.equations ++ (c.bounds ++ (codes "Model " ++ m.name ++ codes " / all /;\n" ++ (codes "Solve " ++ m.name ++ codes " using EMP" ++ goal_text vs m.goal ++ codes ";\n")))) (λ t ss. DeclaresEquations t (equation_names m) ss)
-      (λ t ss. Before (λ ss. AreDefinitions (variable_names m) t m.equations ss) (λ ss. Before (λ ss. AreBounds t m.variables ss) (λ ss. Before (λ ss. NamesModel t m.name ss) (λ ss. Solves t m.name (variable_names m) m.goal ss) ss) ss) ss)
-      (equations_line es free_equations)
-      (before c.equations (c.bounds ++ (codes "Model " ++ m.name ++ codes " / all /;\n" ++ (codes "Solve " ++ m.name ++ codes " using EMP" ++ goal_text vs m.goal ++ codes ";\n"))) (λ t ss. AreDefinitions (variable_names m) t m.equations ss)
-        (λ t ss. Before (λ ss. AreBounds t m.variables ss) (λ ss. Before (λ ss. NamesModel t m.name ss) (λ ss. Solves t m.name (variable_names m) m.goal ss) ss) ss)
-        (definition_lines vs numerals_read free_variables m.equations c.equations c.equation_lines free_equations (subst (λ n. All (SoundEquation n) m.equations) (sym size) s.equations))
-        (before c.bounds (codes "Model " ++ m.name ++ codes " / all /;\n" ++ (codes "Solve " ++ m.name ++ codes " using EMP" ++ goal_text vs m.goal ++ codes ";\n")) (λ t ss. AreBounds t m.variables ss)
-          (λ t ss. Before (λ ss. NamesModel t m.name ss) (λ ss. Solves t m.name (variable_names m) m.goal ss) ss)
-          (bound_lines m.variables c.bounds c.bound_lines free_variables s.variables)
-          (before (codes "Model " ++ m.name ++ codes " / all /;\n") (codes "Solve " ++ m.name ++ codes " using EMP" ++ goal_text vs m.goal ++ codes ";\n") (λ t ss. NamesModel t m.name ss) (λ t ss. Solves t m.name (variable_names m) m.goal ss) (model_line m.name free) last_line)))) in
+    (λ t ss. Before (λ ss. AreDefinitions (variable_names m) t m.equations ss) (λ ss. Before (λ ss. AreBounds t m.variables ss) (λ ss. Before (λ ss. NamesModel t m.name ss) (λ ss. Solves t m.name (variable_names m) m.goal ss) ss) ss) ss)
+    (equations_line es free_equations)
+    (before c.equations (c.bounds ++ (codes "Model " ++ m.name ++ codes " / all /;\n" ++ (codes "Solve " ++ m.name ++ codes " using EMP" ++ goal_text vs m.goal ++ codes ";\n"))) (λ t ss. AreDefinitions (variable_names m) t m.equations ss)
+    (λ t ss. Before (λ ss. AreBounds t m.variables ss) (λ ss. Before (λ ss. NamesModel t m.name ss) (λ ss. Solves t m.name (variable_names m) m.goal ss) ss) ss)
+    (definition_lines vs numerals_read free_variables m.equations c.equations c.equation_lines free_equations (subst (λ n. All (SoundEquation n) m.equations) (sym size) s.equations))
+    (before c.bounds (codes "Model " ++ m.name ++ codes " / all /;\n" ++ (codes "Solve " ++ m.name ++ codes " using EMP" ++ goal_text vs m.goal ++ codes ";\n")) (λ t ss. AreBounds t m.variables ss)
+    (λ t ss. Before (λ ss. NamesModel t m.name ss) (λ ss. Solves t m.name (variable_names m) m.goal ss) ss)
+    (bound_lines m.variables c.bounds c.bound_lines free_variables s.variables)
+    (before (codes "Model " ++ m.name ++ codes " / all /;\n") (codes "Solve " ++ m.name ++ codes " using EMP" ++ goal_text vs m.goal ++ codes ";\n") (λ t ss. NamesModel t m.name ss) (λ t ss. Solves t m.name (variable_names m) m.goal ss) (model_line m.name free) last_line)))) in
     subst (λ x. Ends x (λ t ss. Parts m t ss))
     (text_bytes (names_line (codes "Variables ") vs) (names_line (codes "Equations ") es) c.equations c.bounds (codes "Model ") m.name (codes " / all /;\n") (codes "Solve ") (codes " using EMP") (goal_text vs m.goal) (codes ";\n") ∙ sym c.is)
     whole
