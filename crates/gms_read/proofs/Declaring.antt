@@ -1,5 +1,5 @@
 -- Drafts in which names are declared and variables are set.
-use Rattle.std.proofs.Common.{◌≡◌, ℕ, refl, sym, ap, set, get_or, length, pos}
+use Rattle.std.proofs.Common.{◌≡◌, pos}
 use Rattle.std.proofs.lemmas.List.{set_past, get_or_past}
 use Rattle.emp_num.specs.declared.frac.Frac.{Frac}
 use Rattle.emp_num.specs.FracSpec.{IsQuotient}

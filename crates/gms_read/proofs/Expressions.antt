@@ -15,16 +15,13 @@ use Rattle.gms_read.specs.declared.lexeme.Sort.TheVariants.{Name as IsName}
 use Rattle.gms_read.specs.declared.lexeme.Lexeme.{Lexeme}
 use Rattle.gms_read.specs.declared.item.Item.{Item}
 use Rattle.gms_read.specs.declared.item.Item.TheVariants.{Number, Enters, Lists, Applies, Groups, Raises, Signs, Joins}
-use Rattle.gms_read.specs.declared.draft.Draft.{Draft}
 use Rattle.gms_read.specs.declared.fault.ModelFault.{ModelFault}
 use Rattle.gms_read.specs.declared.fault.ModelFault.TheVariants.{Undeclared, Function}
 use Rattle.gms_read.specs.declared.progress.Second.TheVariants.{Absent}
 use Rattle.gms_read.specs.declared.progress.Progress.{Progress}
-use Rattle.gms_read.specs.declared.shape.Shape.TheVariants.{One}
 use Rattle.gms_read.specs.Grammar.{Written, numeral, name, call, listed, grouped, raised, signed, joined}
 use Rattle.gms_read.specs.Items.{written_items}
-use Rattle.gms_read.specs.Rules.{or_else, fault_where, is_none, is_exponent, exponent, or_zero, is_one_argument, is_power_of, is_power, is_function, second_exponent, variable_of, expression_fault, meaning, places}
-use Rattle.gms_read.specs.Shapes.{shape_from, accepts}
+use Rattle.gms_read.specs.Rules.{or_else, fault_where, is_none, is_exponent, exponent, or_zero, is_one_argument, is_power_of, is_function, second_exponent, variable_of, expression_fault, meaning, places}
 use Rattle.gms_read.specs.Sides.{name_by, raise_by}
 use Rattle.gms_read.specs.Performing.{with_side, on_side, next_step, item_step, all_steps}
 use Rattle.gms_read.proofs.Formed.{IsFormed}

@@ -1,5 +1,5 @@
 -- Where arguments parted by a comma stand in what the grammar gives: in functions alone.
-use Rattle.std.proofs.Common.{◌≡◌, Bool, true, false, List, [], ◌∷◌}
+use Rattle.std.proofs.Common.{Bool, true, false, List, [], ◌∷◌}
 use Rattle.gms_read.specs.declared.lexeme.Lexeme.{Lexeme}
 use Rattle.gms_read.specs.Grammar.{Written, numeral, name, call, listed, grouped, raised, signed, joined, Level, Arguments, Sum, Term, Factor, Primary, Stands, a_numeral, a_name, a_call, a_group, a_primary, a_power, a_factor, a_product, a_term, a_signed, a_sum, an_argument, arguments, Statement, empty, variables, equations, definition, setting, model, solve, IsStatement, is_empty, is_variables, is_domain, is_equations, is_definition, is_setting, is_model, IsSolve, is_solve, IsFile, last, then}
 

@@ -1,9 +1,8 @@
 -- The items of statements do what the statements do.
-use Rattle.std.proofs.Common.{◌≡◌, ◌⊎◌, ℕ, ◌+◌, ◌-◌, ◌<◌, ◌≤◌, Bool, true, false, cond, List, [], ◌∷◌, ◌++◌, map, length, get_or, take, drop, slice_range, Option, Some, None, Result, Ok, Err, IsErrAnd, inl, inr, refl, sym, ap, ◌∙◌, append_assoc}
+use Rattle.std.proofs.Common.{◌≡◌, ◌⊎◌, ℕ, ◌+◌, ◌-◌, ◌<◌, ◌≤◌, Bool, true, false, cond, List, [], ◌∷◌, ◌++◌, map, length, get_or, drop, slice_range, Option, Some, None, Result, Ok, Err, IsErrAnd, inl, inr, refl, sym, ap, ◌∙◌, append_assoc}
 use Rattle.std.proofs.lemmas.List.{at_drop_more, at_drop_all, take_rest}
 use Rattle.emp_ast.specs.declared.model.Relation.{Relation}
 use Rattle.emp_ast.specs.declared.model.Sense.{Sense}
-use Rattle.gms_read.specs.declared.lexeme.Domain.{Domain}
 use Rattle.gms_read.specs.declared.lexeme.Domain.TheVariants.{Free, Positive, Negative, Discrete as DiscreteWord}
 use Rattle.gms_read.specs.declared.lexeme.Lexeme.{Lexeme}
 use Rattle.gms_read.specs.declared.item.Item.{Item}
@@ -13,12 +12,12 @@ use Rattle.gms_read.specs.declared.fault.ModelFault.{ModelFault}
 use Rattle.gms_read.specs.declared.fault.ModelFault.TheVariants.{Undeclared, NoMemory}
 use Rattle.gms_read.specs.declared.progress.Progress.{Progress}
 use Rattle.gms_read.specs.Grammar.{Written, Statement, empty, variables, equations, definition, setting, model, solve, IsFile}
-use Rattle.gms_read.specs.Items.{written_items, goal_items, statement_items, items_of}
+use Rattle.gms_read.specs.Items.{written_items, statement_items, items_of}
 use Rattle.gms_read.specs.Steps.{DraftsAll}
 use Rattle.gms_read.specs.Rules.{Step, and_then, or_else, unless_fault, or_zero, equation_of, variable_of, declared_as, is_model, expression_fault, tree_of, definition_fault, with_definition, define, declare_variable, declare_equation, declare_model, declare_all, set_by, with_goal, aim_at, aim, after, after_all, nothing_yet}
-use Rattle.gms_read.specs.Performing.{idle, with_equation, on_draft, begun_by, related, solved, item_step, next_step, all_steps}
+use Rattle.gms_read.specs.Performing.{idle, with_equation, on_draft, begun_by, solved, item_step, next_step, all_steps}
 use Rattle.gms_read.proofs.Formed.{IsFormed, IsFormedStatement, AreFormed, formed_file}
-use Rattle.gms_read.proofs.Expressions.{unless, reading, read_written}
+use Rattle.gms_read.proofs.Expressions.{unless, read_written}
 
 -- a step, and what comes behind it
 abbrev pub go_on : Step → (Draft → Result Progress ModelFault) → Result Progress ModelFault

@@ -1,11 +1,9 @@
 -- What items do, one by one.
-use Rattle.std.specs.Prelude.{◌≡◌, ◌⊎◌, ℕ, Bool, true, false, cond, List, [], ◌∷◌, slice_set, Option, Some, None, Result, Ok, Err}
-use Rattle.emp_num.specs.declared.frac.Frac.{Frac}
+use Rattle.std.specs.Prelude.{◌≡◌, ◌⊎◌, ℕ, true, cond, List, [], ◌∷◌, slice_set, Option, Some, None, Result, Ok, Err}
 use Rattle.emp_ast.specs.declared.tree.Tree.{Tree}
 use Rattle.emp_ast.specs.declared.model.Relation.{Relation}
 use Rattle.emp_ast.specs.declared.model.Relation.TheVariants.{Nothing}
 use Rattle.gms_read.specs.declared.lexeme.Lexeme.{Lexeme}
-use Rattle.gms_read.specs.declared.lexeme.Domain.{Domain}
 use Rattle.gms_read.specs.declared.item.Item.{Item}
 use Rattle.gms_read.specs.declared.item.Item.TheVariants.{Begins, Variable, Equation, Defines, Relates, Ends, Number, Name, Enters, Lists, Applies, Groups, Raises, Signs, Joins, Sets, Model, Solves, Aims}
 use Rattle.gms_read.specs.declared.draft.Draft.{Draft}
@@ -14,7 +12,7 @@ use Rattle.gms_read.specs.declared.fault.ModelFault.TheVariants.{Undeclared, NoM
 use Rattle.gms_read.specs.declared.progress.Second.TheVariants.{Awaited}
 use Rattle.gms_read.specs.declared.progress.Side.{Side}
 use Rattle.gms_read.specs.declared.progress.Progress.{Progress}
-use Rattle.gms_read.specs.Rules.{Step, unless_fault, no_tree, equation_of, variable_of, equation_at, or_zero, exponent, definition_fault, discrete_fault, declare_variable, declare_equation, declare_model, set_by, declared_as, is_model, with_goal, aim_at}
+use Rattle.gms_read.specs.Rules.{Step, no_tree, equation_of, variable_of, equation_at, or_zero, exponent, definition_fault, discrete_fault, declare_variable, declare_equation, declare_model, set_by, declared_as, is_model, with_goal, aim_at}
 use Rattle.gms_read.specs.Sides.{no_side, with_second, number_by, name_by, exponent_of, raised_to, raise_by, signed_by, joined_by, entered}
 
 -- a call that changes `new` did what the step gives, or its memory was wanting

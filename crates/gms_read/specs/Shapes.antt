@@ -1,5 +1,5 @@
 -- Which arguments a function has, as the items behind its name tell.
-use Rattle.std.specs.Prelude.{ℕ, ◌+◌, ◌-◌, Bool, true, false, cond, nat_eq, List, [], ◌∷◌, Option, Some, None}
+use Rattle.std.specs.Prelude.{ℕ, ◌+◌, ◌-◌, Bool, true, false, cond, nat_eq, List, [], ◌∷◌}
 use Rattle.gms_read.specs.declared.lexeme.Word.TheVariants.{Square, Power as PowerWord}
 use Rattle.gms_read.specs.declared.lexeme.Sort.{Sort}
 use Rattle.gms_read.specs.declared.lexeme.Sort.TheVariants.{Name as IsName}

@@ -10,14 +10,13 @@ use Rattle.gms_read.specs.declared.lexeme.Lexeme.{Lexeme}
 use Rattle.gms_read.specs.declared.lexeme.Sign.{Sign}
 use Rattle.gms_read.specs.declared.lexeme.Sign.TheVariants.{Plus, Minus}
 use Rattle.gms_read.specs.declared.item.Item.{Item}
-use Rattle.gms_read.specs.declared.draft.Draft.{Draft}
 use Rattle.gms_read.specs.declared.fault.ModelFault.{ModelFault}
 use Rattle.gms_read.specs.declared.fault.ModelFault.TheVariants.{Undeclared, Function}
 use Rattle.gms_read.specs.declared.progress.Second.{Second}
 use Rattle.gms_read.specs.declared.progress.Second.TheVariants.{Absent, Awaited, Given}
 use Rattle.gms_read.specs.declared.progress.Side.{Side}
 use Rattle.gms_read.specs.declared.shape.Shape.TheVariants.{One}
-use Rattle.gms_read.specs.Rules.{exponent, or_zero, variable_of, no_tree}
+use Rattle.gms_read.specs.Rules.{exponent, or_zero, no_tree}
 use Rattle.gms_read.specs.Shapes.{shape_from, accepts}
 
 abbrev pub latest : List ℕ → ℕ

@@ -1,7 +1,7 @@
 //! Which arguments a function has.
 ghost use Rattle.std.specs.Prelude.{◌≡◌, ◌<◌, ◌+◌, ◌^◌};
 ghost use Rattle.gms_read.specs.declared.shape.Shape.TheVariants.{One};
-ghost use Rattle.gms_read.specs.Rules.{exponent, is_exponent};
+ghost use Rattle.gms_read.specs.Rules.{exponent};
 ghost use Rattle.gms_read.specs.Shapes.{closes, depth_behind, shape_behind, shape_from, accepts};
 
 use crate::item::Item;

@@ -1,4 +1,3 @@
-use Rattle.std.proofs.Common.{rules, arith}
 use Rattle.gms_read.proofs.Performed.{drafts_fault}
 use Rattle.gms_read.proofs.perform.perform.Goals as goal
 
