@@ -8,6 +8,8 @@ pub mod draft;
 pub mod fault;
 pub mod item;
 pub mod lexeme;
+pub mod moves;
 pub mod parse;
 pub mod perform;
+pub mod symbol;
 pub mod table;
