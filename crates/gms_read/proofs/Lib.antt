@@ -1,3 +1,4 @@
 pub mod Stacks
 pub mod Writing
 pub mod Meanings
+pub mod Complete
