@@ -1,7 +1,6 @@
 -- Lexemes that stand for statements are read.
-use Rattle.std.proofs.Common.{◌≡◌, Bool, true, false, IsTrue, List, [], ◌∷◌, ◌++◌, map, Option, Some, None, refl, sym, ap, subst, ◌∙◌, append_assoc, append-nil}
+use Rattle.std.proofs.Common.{◌≡◌, Bool, true, false, IsTrue, List, [], ◌∷◌, ◌++◌, map, Option, Some, None, refl, ap, append_assoc}
 use Rattle.std.proofs.lemmas.List.{map-append}
-use Rattle.std.specs.Option.{option_to_list}
 use Rattle.emp_num.specs.declared.frac.Frac.{Frac}
 use Rattle.emp_ast.specs.declared.model.Sense.{Sense}
 use Rattle.emp_ast.specs.declared.model.Sense.TheVariants.{Min, Max}
@@ -22,8 +21,8 @@ use Rattle.gms_read.specs.declared.symbol.Want.TheVariants.{Variables as WantVar
 use Rattle.gms_read.specs.declared.symbol.Symbol.{Symbol}
 use Rattle.gms_read.specs.declared.symbol.Symbol.TheVariants.{File, Semicolons, Single, Write, Names, OptionalText, MoreNames, AfterName, Attribute, Value, SignedValue, Comparison, ModelName, Everything, SolveName, Goal, Aim, Sum as SumSymbol, Factor as FactorSymbol, AfterLeaf, MorePower, Exponent, MoreFactors, MoreTerms, MoreArguments, Closing}
 use Rattle.gms_read.specs.declared.symbol.Next.TheVariants.{Nothing, One, Two, Three, Four}
-use Rattle.gms_read.specs.declared.symbol.Move.TheVariants.{Skip, Take}
-use Rattle.gms_read.specs.Grammar.{Written, IsName, sum_operator, product_operator, signed_limit, Level, Arguments, Sum, Term, Factor, Primary, Stands, a_numeral, a_name, a_call, a_group, a_primary, a_power, a_factor, a_product, a_term, a_signed, a_sum, an_argument, arguments, Statement, IsEntry, bare, described, AreNames, first, next, next_behind_comma, IsUnsigned, finite, infinite, IsLimit, no_sign, with_sign, IsGoal, no_goal, least, greatest, IsStatement, is_empty, is_variables, is_domain, is_equations, is_definition, is_setting, is_model, IsSolve, is_solve, AreSemicolons, none, more, IsFile, last, then}
+use Rattle.gms_read.specs.declared.symbol.Move.TheVariants.{Skip}
+use Rattle.gms_read.specs.Grammar.{Written, sum_operator, product_operator, signed_limit, Level, Arguments, Sum, Term, Factor, Primary, Stands, a_numeral, a_name, a_call, a_group, a_primary, a_power, a_factor, a_product, a_term, a_signed, a_sum, an_argument, arguments, Statement, IsEntry, bare, described, AreNames, first, next, next_behind_comma, IsUnsigned, finite, infinite, IsLimit, no_sign, with_sign, IsGoal, no_goal, least, greatest, IsStatement, is_empty, is_variables, is_domain, is_equations, is_definition, is_setting, is_model, IsSolve, is_solve, AreSemicolons, none, more, IsFile, last, then}
 use Rattle.gms_read.specs.Items.{written_items, goal_items, statement_items, items_of}
 use Rattle.gms_read.specs.Machine.{declared, wanted, single_move, after_leaf_move, more_power_move, more_factors_move, more_terms_move, optional_text_move, move}
 use Rattle.gms_read.proofs.Writing.{Writes, over, takes, skips}

@@ -1,12 +1,11 @@
 -- What each symbol stands for in the grammar, and that the machine keeps to it.
-use Rattle.std.proofs.Common.{◌≡◌, Bool, true, false, cond, List, [], ◌∷◌, ◌++◌, map, Option, Some, None, refl, sym, ap, subst, ◌∙◌, append_assoc, append-nil}
+use Rattle.std.proofs.Common.{◌≡◌, Bool, true, false, cond, List, [], ◌∷◌, ◌++◌, map, Option, Some, None, refl, subst, ◌∙◌, append_assoc, append-nil}
 use Rattle.std.proofs.lemmas.List.{map-append}
 use Rattle.std.specs.Option.{option_to_list}
 use Rattle.emp_num.specs.declared.frac.Frac.{Frac}
 use Rattle.emp_ast.specs.declared.model.Sense.{Sense}
 use Rattle.emp_ast.specs.declared.model.Sense.TheVariants.{Min, Max}
 use Rattle.emp_ast.specs.declared.model.Relation.{Relation}
-use Rattle.gms_read.specs.declared.lexeme.Word.{Word}
 use Rattle.gms_read.specs.declared.lexeme.Word.TheVariants.{All, Using, Emp, Minimizing, Maximizing, Infinity}
 use Rattle.gms_read.specs.declared.lexeme.Domain.{Domain}
 use Rattle.gms_read.specs.declared.lexeme.Domain.TheVariants.{Free}
@@ -17,9 +16,8 @@ use Rattle.gms_read.specs.declared.lexeme.Sort.{Sort}
 use Rattle.gms_read.specs.declared.lexeme.Sort.TheVariants.{Name, Numeral, Text, Relation as Related, Domain as DomainWord, Variables, Equations, Model, Solve, Sign as Signed, Scale as Scaled, Raise, Equals, Semicolon, Comma, Dot, Dots, Open, Close}
 use Rattle.gms_read.specs.declared.lexeme.Lexeme.{Lexeme}
 use Rattle.gms_read.specs.declared.draft.Limit.{Limit}
-use Rattle.gms_read.specs.declared.draft.Limit.TheVariants.{At, Above}
 use Rattle.gms_read.specs.declared.item.Item.{Item}
-use Rattle.gms_read.specs.declared.item.Item.TheVariants.{Begins, Variable, Equation, Defines, Relates, Ends, Number, Name as NameItem, Enters, Lists, Applies, Groups, Raises, Signs, Joins, Sets, Model as ModelItem, Solves, Aims}
+use Rattle.gms_read.specs.declared.item.Item.TheVariants.{Begins, Defines, Relates, Ends, Number, Name as NameItem, Enters, Lists, Applies, Groups, Raises, Signs, Joins, Sets, Model as ModelItem, Solves, Aims}
 use Rattle.gms_read.specs.declared.symbol.Declares.{Declares}
 use Rattle.gms_read.specs.declared.symbol.Declares.TheVariants.{Variables as ForVariables, Equations as ForEquations}
 use Rattle.gms_read.specs.declared.symbol.Want.{Want}
@@ -32,7 +30,8 @@ use Rattle.gms_read.specs.declared.symbol.Move.{Move}
 use Rattle.gms_read.specs.declared.symbol.Move.TheVariants.{Fail, Skip, Take}
 use Rattle.gms_read.specs.Grammar.{Written, IsName, sum_operator, product_operator, signed_limit, Level, Arguments, Sum, Term, Factor, Primary, Stands, a_numeral, a_name, a_call, a_group, a_primary, a_power, a_factor, a_product, a_term, a_signed, a_sum, an_argument, arguments, Statement, IsEntry, bare, described, AreNames, first, next, next_behind_comma, IsUnsigned, finite, infinite, IsLimit, no_sign, with_sign, IsGoal, no_goal, least, greatest, IsStatement, is_empty, is_variables, is_domain, is_equations, is_definition, is_setting, is_model, IsSolve, is_solve, AreSemicolons, none, more, IsFile, last, then}
 use Rattle.gms_read.specs.Items.{written_items, goal_items, statement_items, items_of}
-use Rattle.gms_read.specs.Machine.{declared, wanted, is_wanted, single_move, file_move, semicolons_move, names_move, optional_text_move, more_names_move, after_name_move, attribute_move, value_move, signed_value_move, comparison_move, model_name_move, everything_move, solve_name_move, goal_move, aim_move, sum_move, factor_move, after_leaf_move, more_power_move, exponent_move, more_factors_move, more_terms_move, more_arguments_move, closing_move, move as move_of, symbols}
+use Rattle.gms_read.specs.Machine.{declared, wanted, is_wanted, file_move, semicolons_move, names_move, optional_text_move, more_names_move, after_name_move, attribute_move, value_move, signed_value_move, comparison_move, model_name_move, everything_move, solve_name_move, goal_move, aim_move, sum_move, factor_move, after_leaf_move, more_power_move, exponent_move, more_factors_move, more_terms_move, more_arguments_move, closing_move, move as move_of, symbols}
+use Rattle.gms_read.specs.Steps.{AreItems}
 use Rattle.gms_read.proofs.Writing.{Writes, over, takes, skips}
 
 -- ---- lexemes and what they write
@@ -169,7 +168,7 @@ module _ {how : Declares} where
   has_next {es = es} {t = t} (has {ts = ts} {names = names} h) entry =
       subst (λ v. HasNames how (ts ++ es) v) (map-append (declared how) names (t ∷ [])) (has (next ts es names t h entry))
 
-  has_behind_comma : (c : Lexeme) {t : Lexeme} {ts es : List Lexeme}  {v : List Item} → HasNames how ts v → c.sort ≡ Comma → IsEntry es t → HasNames how (ts ++ c ∷ es) (v ++ declared how t ∷ [])
+  has_behind_comma : (c : Lexeme) {t : Lexeme} {ts es : List Lexeme} {v : List Item} → HasNames how ts v → c.sort ≡ Comma → IsEntry es t → HasNames how (ts ++ c ∷ es) (v ++ declared how t ∷ [])
   has_behind_comma c {t = t} {es = es} (has {ts = ts} {names = names} h) comma entry =
       subst (λ v. HasNames how (ts ++ c ∷ es) v) (map-append (declared how) names (t ∷ [])) (has (next_behind_comma ts es names c t h comma entry))
 
@@ -273,14 +272,14 @@ arguments_at c g (is {ts = ts} {e = e} h) (is {ts = us} {e = f} k) = is (argumen
 call : {n o : Lexeme} {us : List Lexeme} {w : List Item} → IsName n → o.sort ≡ Open → Split (IsAt Sum) (EndsCall n) us w → IsAt Primary (n ∷ o ∷ us) (Enters n ∷ w)
 call name e (split {ts = ts} {v = v} one ends) = call_at name e (ends ts v (argument_at one))
 
-one_argument_more : (c : Lexeme) {n : Lexeme}  {us : List Lexeme} {w : List Item} → c.sort ≡ Comma → Split (IsAt Sum) (EndsCall n) us w → EndsCall n (c ∷ us) (Lists ∷ w)
-one_argument_more c e (split {ts = us} {us = rest} {v = w} {w = v2} one ends) ts v h =
+one_argument_more : (c : Lexeme) {n : Lexeme} {us : List Lexeme} {w : List Item} → c.sort ≡ Comma → Split (IsAt Sum) (EndsCall n) us w → EndsCall n (c ∷ us) (Lists ∷ w)
+one_argument_more c e (split {ts = us} {us = rest} {v = w} {w = rest_w} one ends) ts v h =
     simp append_assoc at (ends (ts ++ c ∷ us) (v ++ Lists ∷ w) (arguments_at c e h one))
 
-ends_call : (c : Lexeme) {n : Lexeme}  → c.sort ≡ Close → EndsCall n (c ∷ []) (Applies n ∷ [])
+ends_call : (c : Lexeme) {n : Lexeme} → c.sort ≡ Close → EndsCall n (c ∷ []) (Applies n ∷ [])
 ends_call c e ts v (is h) = call_of c h e
 
-group_at : (c : Lexeme) {o : Lexeme}  {ts : List Lexeme} {v : List Item} → o.sort ≡ Open → c.sort ≡ Close → IsAt Sum ts v → IsAt Primary (o ∷ ts ++ c ∷ []) (v ++ Groups ∷ [])
+group_at : (c : Lexeme) {o : Lexeme} {ts : List Lexeme} {v : List Item} → o.sort ≡ Open → c.sort ≡ Close → IsAt Sum ts v → IsAt Primary (o ∷ ts ++ c ∷ []) (v ++ Groups ∷ [])
 group_at c {o = o} e f (is {ts = ts} {e = a} h) = is (a_group o c ts a e h f)
 
 group : (c : Lexeme) {us : List Lexeme} {w : List Item} → c.sort ≡ Close → Means MorePower us w → Means Closing (c ∷ us) (Groups ∷ w)
@@ -315,8 +314,8 @@ one_factor_more {t = t} {s = s} e (split {ts = us} {v = w} one (split done grows
     simp append_assoc at (grows (ts ++ t ∷ us) (v ++ w ++ Joins (product_operator s) t ∷ []) (product_at t e h one))
 
 one_term_more : {t : Lexeme} {s : Sign} {us : List Lexeme} {w : List Item} → t.sort ≡ Signed s → Split (IsAt Factor) (Split (Means MoreFactors) (Split (IsDone (Joins (sum_operator s) t)) (Means MoreTerms))) us w → Means MoreTerms (t ∷ us) w
-one_term_more {t = t} {s = s} e (split {ts = us} {v = w} one (split {ts = us2} {v = w2} factors (split done grows))) ts v h =
-    simp append_assoc at (grows (ts ++ t ∷ (us ++ us2)) (v ++ (w ++ w2) ++ Joins (sum_operator s) t ∷ []) (sum_at t e h (factors us w (factor_at one))))
+one_term_more {t = t} {s = s} e (split {ts = us} {v = w} one (split {ts = more_us} {v = more_w} factors (split done grows))) ts v h =
+    simp append_assoc at (grows (ts ++ t ∷ (us ++ more_us)) (v ++ (w ++ more_w) ++ Joins (sum_operator s) t ∷ []) (sum_at t e h (factors us w (factor_at one))))
 
 -- a factor and what stands behind it
 from_factor : {ts us : List Lexeme} {v w : List Item} → IsAt Factor ts v → Split (Means MoreFactors) (Means MoreTerms) us w → IsAt Sum (ts ++ us) (v ++ w)
@@ -342,8 +341,8 @@ group_sum : {o : Lexeme} {us : List Lexeme} {w : List Item} → o.sort ≡ Open 
 group_sum {o = o} e (split one (split closing rest)) = simp append_assoc at (from_factor (group_factor {o = o} e (split one closing)) rest)
 
 signed_sum : {t : Lexeme} {s : Sign} {us : List Lexeme} {w : List Item} → t.sort ≡ Signed s → Split (IsAt Factor) (Split (Means MoreFactors) (Split (IsDone (Signs s t)) (Means MoreTerms))) us w → IsAt Sum (t ∷ us) w
-signed_sum {t = t} {s = s} e (split {ts = us} {v = w} one (split {ts = us2} {v = w2} factors (split done terms))) =
-    simp append_assoc at (terms (t ∷ (us ++ us2)) ((w ++ w2) ++ Signs s t ∷ []) (signed_at e (factors us w (factor_at one))))
+signed_sum {t = t} {s = s} e (split {ts = us} {v = w} one (split {ts = more_us} {v = more_w} factors (split done terms))) =
+    simp append_assoc at (terms (t ∷ (us ++ more_us)) ((w ++ more_w) ++ Signs s t ∷ []) (signed_at e (factors us w (factor_at one))))
 
 -- ---- the moves
 wants : (want : Want) (q : Sort) → is_wanted want q ≡ true → q ≡ wanted want
@@ -556,16 +555,11 @@ means (takes {x = x} {s = s} {t = t} {item = item} {next = n} e h) = one_taken x
 means (skips {x = x} {t = t} e h) = split (subst (Keeps x t) e (keeps x t t.sort refl)) (means h)
 
 -- ---- what the machine writes is what statements write
-pub record Written_file (ts : List Lexeme) (w : List Item) : Type 0 where
-  pub statements : List Statement
-  pub file : IsFile ts statements
-  pub are : w ≡ items_of statements
-
-whole : {ts : List Lexeme} {w : List Item} → IsWhole ts w → Written_file ts w
+whole : {ts : List Lexeme} {w : List Item} → IsWhole ts w → AreItems ts w
 whole (file_of {ss = ss} h) = record { statements = ss; file = h; are = refl }
 
 only : {ts : List Lexeme} {w : List Item} → Split IsWhole Nil ts w → IsWhole ts w
 only (split h nil) = simp append-nil h
 
-pub sound : {ts : List Lexeme} {w : List Item} → Writes (File ∷ []) ts w → Written_file ts w
+pub sound : {ts : List Lexeme} {w : List Item} → Writes (File ∷ []) ts w → AreItems ts w
 sound h = whole (only (means h))

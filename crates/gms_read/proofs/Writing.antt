@@ -1,5 +1,5 @@
 -- What the machine writes, as a relation, and the machine as a function.
-use Rattle.std.proofs.Common.{◌≡◌, List, [], ◌∷◌, ◌++◌, Option, Some, None, refl, sym, ap, subst, ◌∙◌, append_assoc, append-nil}
+use Rattle.std.proofs.Common.{◌≡◌, List, [], ◌∷◌, ◌++◌, Option, Some, None, refl, sym, ap, ◌∙◌, append_assoc, append-nil}
 use Rattle.std.specs.Option.{option_to_list}
 use Rattle.gms_read.specs.declared.lexeme.Lexeme.{Lexeme}
 use Rattle.gms_read.specs.declared.item.Item.{Item}
@@ -8,7 +8,7 @@ use Rattle.gms_read.specs.declared.symbol.Symbol.TheVariants.{Semicolons}
 use Rattle.gms_read.specs.declared.symbol.Next.{Next}
 use Rattle.gms_read.specs.declared.symbol.Move.{Move}
 use Rattle.gms_read.specs.declared.symbol.Move.TheVariants.{Fail, Skip, Take}
-use Rattle.gms_read.specs.Machine.{move, symbols, add, by_move, step, run, run_from, is_over}
+use Rattle.gms_read.specs.Machine.{move, symbols, add, by_move, step, run, run_from}
 
 -- from the stack on the machine takes the lexemes and writes the items
 pub data Writes : List Symbol → List Lexeme → List Item → Type 0 where

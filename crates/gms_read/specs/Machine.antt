@@ -2,11 +2,9 @@
 use Rattle.std.specs.Prelude.{◌≡◌, Bool, true, false, cond, List, [], ◌∷◌, ◌++◌, Option, Some, None}
 use Rattle.emp_ast.specs.declared.model.Sense.{Sense}
 use Rattle.emp_ast.specs.declared.model.Sense.TheVariants.{Min, Max}
-use Rattle.gms_read.specs.declared.lexeme.Word.{Word}
 use Rattle.gms_read.specs.declared.lexeme.Word.TheVariants.{All, Using, Emp, Minimizing, Maximizing, Infinity}
 use Rattle.gms_read.specs.declared.lexeme.Domain.TheVariants.{Free}
 use Rattle.gms_read.specs.declared.lexeme.Sign.{Sign}
-use Rattle.gms_read.specs.declared.lexeme.Scale.{Scale}
 use Rattle.gms_read.specs.declared.lexeme.Scale.TheVariants.{Over}
 use Rattle.gms_read.specs.declared.lexeme.Sort.{Sort}
 use Rattle.gms_read.specs.declared.lexeme.Sort.TheVariants.{Name, Numeral, Text, Relation as Related, Domain as DomainWord, Variables, Equations, Model, Solve, Sign as Signed, Scale as Scaled, Raise, Equals, Semicolon, Comma, Dot, Dots, Open, Close}

@@ -175,10 +175,7 @@ fn value_move(name: Lexeme, attribute: Lexeme, sort: Sort) -> Move
     match sort {
         Sort::Numeral(f) => sets(name, attribute, Limit::At(f)),
         Sort::Name(Word::Infinity) => sets(name, attribute, Limit::Above),
-        Sort::Sign(sign) => Move::Take(
-            None,
-            Next::One(Symbol::SignedValue(name, attribute, sign)),
-        ),
+        Sort::Sign(sign) => Move::Take(None, Next::One(Symbol::SignedValue(name, attribute, sign))),
         _ => Move::Fail,
     }
 }
@@ -313,11 +310,7 @@ fn sum_move(t: Lexeme) -> Move
         ),
         Sort::Numeral(f) => Move::Take(
             Some(Item::Number(t, f)),
-            Next::Three(
-                Symbol::MorePower,
-                Symbol::MoreFactors,
-                Symbol::MoreTerms,
-            ),
+            Next::Three(Symbol::MorePower, Symbol::MoreFactors, Symbol::MoreTerms),
         ),
         Sort::Open => Move::Take(
             None,

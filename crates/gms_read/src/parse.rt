@@ -48,11 +48,7 @@ fn expand(stack: &mut Vec<Symbol>, next: Next) -> Result<(), AllocError>
 
 /// Takes one lexeme, where it can come.
 #[tactic(auto, using(crate::proofs::Stacks::stacking))]
-fn advance(
-    stack: &mut Vec<Symbol>,
-    out: &mut Vec<Item>,
-    t: Lexeme,
-) -> Result<bool, AllocError>
+fn advance(stack: &mut Vec<Symbol>, out: &mut Vec<Item>, t: Lexeme) -> Result<bool, AllocError>
     ensures { IfOk result (Steps (step (reverse stack.old.items) out.old.items t) (reverse stack.new.items) out.new.items) }
 {
     while let Some(top) = stack.pop() {
@@ -84,5 +80,17 @@ fn is_over(stack: &[Symbol]) -> bool
 pub fn parse(alloc: Global, lexemes: &[Lexeme], end: Place) -> Result<Vec<Item>, ModelFault>
     ensures { MatchResult result (λ v. AreItems lexemes.now v.items) (RefusesLexemes lexemes.now) }
 {
-    Err(ModelFault::NoMemory)
+    let mut stack = Vec::new(alloc);
+    let mut out = Vec::new(alloc);
+    stack.push(Symbol::File)?;
+    for t in lexemes {
+        if !advance(&mut stack, &mut out, *t)? {
+            return Err(ModelFault::Syntax(t.place));
+        }
+    }
+    if is_over(stack.as_slice()) {
+        Ok(out)
+    } else {
+        Err(ModelFault::Syntax(end))
+    }
 }
