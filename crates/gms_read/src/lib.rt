@@ -22,3 +22,5 @@ pub mod shape;
 pub mod side;
 pub mod symbol;
 pub mod table;
+#[cfg(test)]
+mod tests;
