@@ -11,6 +11,9 @@ use crate::symbol::{Move, Next, Symbol};
 use emp_ast::tree::Place;
 use std::alloc::{AllocError, Global};
 
+#[cfg(test)]
+mod tests;
+
 fn write(out: &mut Vec<Item>, item: Option<Item>) -> Result<(), AllocError>
     ensures { OnOk result (out.new.items ≡ add out.old.items item) }
 {
