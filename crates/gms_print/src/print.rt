@@ -7,7 +7,7 @@ ghost use Rattle.gms_print.specs.Marks.{names_of};
 ghost use Rattle.gms_print.specs.Lines.{goal_word, IsPrintableModel};
 
 use crate::expression::write_variable;
-use crate::lines::{write_bounds, write_equation_names, write_equations, write_variable_names};
+use crate::model_lines::{write_bounds, write_equation_names, write_equations, write_variable_names};
 use emp_ast::model::{Model, Sense, Variable};
 use emp_ast::tree::VarId;
 use std::alloc::{AllocError, Global};

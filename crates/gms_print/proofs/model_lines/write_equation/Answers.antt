@@ -3,7 +3,7 @@ use Rattle.gms_print.specs.Canonical.{relation_text}
 use Rattle.gms_print.specs.Decimals.{Adds}
 use Rattle.gms_print.specs.Marks.{names_of, PrintsTree}
 use Rattle.gms_print.proofs.ModelLines.{equation_line}
-use Rattle.gms_print.proofs.lines.write_equation.Goals as goal
+use Rattle.gms_print.proofs.model_lines.write_equation.Goals as goal
 
 pub returns : goal.returns
 returns c =

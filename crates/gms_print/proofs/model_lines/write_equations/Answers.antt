@@ -1,6 +1,6 @@
 use Rattle.gms_print.specs.Marks.{names_of}
 use Rattle.gms_print.proofs.ModelLines.{onward_more, onward_end, printable_equation}
-use Rattle.gms_print.proofs.lines.write_equations.Goals as goal
+use Rattle.gms_print.proofs.model_lines.write_equations.Goals as goal
 
 pub loop-equation-preserved : goal.loop-equation-preserved
 loop-equation-preserved c =

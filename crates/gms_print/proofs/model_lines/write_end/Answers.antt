@@ -4,7 +4,7 @@ use Rattle.gms_print.specs.Canonical.{IsNumeral, EndLine}
 use Rattle.gms_print.specs.Decimals.{Adds}
 use Rattle.gms_print.specs.Lines.{IsPrintableEnd}
 use Rattle.gms_print.proofs.ModelLines.{open_line, end_line}
-use Rattle.gms_print.proofs.lines.write_end.Goals as goal
+use Rattle.gms_print.proofs.model_lines.write_end.Goals as goal
 
 pub returns-in-Open : goal.returns-in-Open
 returns-in-Open c =
