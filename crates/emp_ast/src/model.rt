@@ -1,5 +1,5 @@
 //! Models.
-use crate::tree::{Tree, VarId};
+use crate::tree::{EquId, Tree, VarId};
 use emp_list::name::Name;
 use emp_list::seq::Seq;
 use emp_num::frac::Frac;
@@ -50,6 +50,39 @@ pub struct Model {
     pub variables: Seq<Variable>,
     pub equations: Seq<Equation>,
     pub goal: Option<(Sense, VarId)>,
+}
+
+impl Model {
+    ghost use Rattle.std.specs.Prelude.{◌<◌, length};
+    ghost use Rattle.emp_ast.specs.Names.{FindsVariable, FindsEquation};
+
+    /// The variable of that name, compared without case. `None` exactly where none is declared.
+    #[tactic(auto, using(crate::proofs::Finding::finding))]
+    pub fn find_var(&self, name: &[u8]) -> Option<VarId>
+        requires { length self.now.variables < 4294967296 }
+        ensures { FindsVariable self.now name.now result }
+    {
+        for at in 0..self.variables.len() {
+            if self.variables.get(at).name.is_same(name) {
+                return Some(VarId { at: at as u32 });
+            }
+        }
+        None
+    }
+
+    /// The equation of that name, compared without case. `None` exactly where none is declared.
+    #[tactic(auto, using(crate::proofs::Finding::finding))]
+    pub fn find_equ(&self, name: &[u8]) -> Option<EquId>
+        requires { length self.now.equations < 4294967296 }
+        ensures { FindsEquation self.now name.now result }
+    {
+        for at in 0..self.equations.len() {
+            if self.equations.get(at).name.is_same(name) {
+                return Some(EquId { at: at as u32 });
+            }
+        }
+        None
+    }
 }
 
 /// One fraction per variable of a model, in order of declaration.

@@ -10,7 +10,7 @@ use Rattle.emp_lex.specs.Forms.{HasForm, IsFormed}
 use Rattle.emp_lex.proofs.TokenForms.{step_formed, formed_bytes}
 use Rattle.emp_lex.proofs.Lexing.{slice_is}
 
-behind_is : (text : List ℕ) (at size b : ℕ) (bs : List ℕ) → drop at text ≡ b ∷ bs → drop (at + size) text ≡ drop size (b ∷ bs)
+pub behind_is : (text : List ℕ) (at size b : ℕ) (bs : List ℕ) → drop at text ≡ b ∷ bs → drop (at + size) text ≡ drop size (b ∷ bs)
 behind_is text at size b bs e = sym (drop-drop size at text) ∙ ap (drop size) e
 
 formed_from : (text : List ℕ) {at : ℕ} {p : Place} {left : List ℕ} {ts : List Token} {end : Option LexFault} → Reads at p left ts end → drop at text ≡ left → All (IsFormed text) ts

@@ -29,7 +29,7 @@ fn past_byte(place: Place, b: u8) -> Place
 }
 
 /// The place behind the bytes.
-fn past(place: Place, bytes: &[u8]) -> Place
+pub fn past(place: Place, bytes: &[u8]) -> Place
     requires line { place.line + length bytes.now ≤ 4294967295 }
     requires column { place.column + length bytes.now ≤ 4294967295 }
     ensures value { result ≡ past place bytes.now }

@@ -6,7 +6,7 @@
 
 pub mod decimal;
 pub mod expression;
-pub mod model_lines;
 pub mod mark;
+pub mod model_lines;
 pub mod print;
 pub mod shape;

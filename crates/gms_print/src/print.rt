@@ -53,6 +53,7 @@ fn write_last_lines(out: &mut Vec<u8>, model: &Model) -> Result<(), AllocError>
     Ok(())
 }
 
+/// Writes the text of a model behind what is written.
 fn write_model(alloc: Global, out: &mut Vec<u8>, model: &Model) -> Result<(), AllocError>
     ensures { OnOk result (IsPrintableModel model.now → Adds (IsCanonical model.now) out.old.items out.new.items) }
 {
@@ -64,4 +65,15 @@ fn write_model(alloc: Global, out: &mut Vec<u8>, model: &Model) -> Result<(), Al
     write_bounds(out, variables)?;
     write_last_lines(out, model)?;
     Ok(())
+}
+
+/// The canonical text of a model, as `specs/Canonical.antt` defines it.
+///
+/// A model for which no text stands is printed too: as far as it can be, and by what no reader need read.
+pub fn print_model(alloc: Global, model: &Model) -> Result<Vec<u8>, AllocError>
+    ensures canonical { HasText model.now → IfOk result (λ v. IsCanonical model.now v.items) }
+{
+    let mut out = Vec::new(alloc);
+    write_model(alloc, &mut out, model)?;
+    Ok(out)
 }

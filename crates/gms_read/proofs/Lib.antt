@@ -1,0 +1,12 @@
+pub mod Arguments
+pub mod Declaring
+pub mod Expressions
+pub mod Finishes
+pub mod Formed
+pub mod Levels
+pub mod Performed
+pub mod Reading
+pub mod Sorts
+pub mod Stacks
+pub mod Tables
+pub mod WordLists

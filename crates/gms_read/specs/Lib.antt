@@ -5,3 +5,6 @@ pub mod Nesting
 pub mod Rules
 pub mod Texts
 pub mod Steps
+pub mod Shapes
+pub mod Sides
+pub mod Performing

@@ -1,10 +1,13 @@
 -- What the steps of the reader give.
 use Rattle.std.specs.Prelude.{◌≡◌, ◌⊎◌, ℕ, List, Result, Ok, Err}
+use Rattle.emp_lex.specs.declared.fault.LexFault.{LexFault}
+use Rattle.emp_lex.specs.declared.fault.LexFault.TheVariants.{BadByte, LongName, OpenBlock, Dollar, Number, NoMemory as NoMemoryForTokens}
 use Rattle.gms_read.specs.declared.lexeme.Lexeme.{Lexeme}
 use Rattle.gms_read.specs.declared.item.Item.{Item}
 use Rattle.gms_read.specs.declared.draft.Draft.{Draft}
+use Rattle.emp_ast.specs.declared.model.Model.{Model}
 use Rattle.gms_read.specs.declared.fault.ModelFault.{ModelFault}
-use Rattle.gms_read.specs.declared.fault.ModelFault.TheVariants.{Syntax, NoMemory}
+use Rattle.gms_read.specs.declared.fault.ModelFault.TheVariants.{Lex, Syntax, NoMemory}
 use Rattle.emp_ast.specs.declared.tree.Place.{Place}
 use Rattle.gms_read.specs.Grammar.{Statement, IsFile}
 use Rattle.gms_read.specs.Items.{items_of}
@@ -23,7 +26,21 @@ StandsForNone ts = (ss : List Statement) → IsFile ts ss → ⊥
 abbrev pub RefusesLexemes : List Lexeme → ModelFault → Type 0
 RefusesLexemes ts f = (f ≡ NoMemory) ⊎ ((p : Place) × (f ≡ Syntax p) × StandsForNone ts)
 
--- whatever statements the items are of, the draft is what they give, or the fault is the first that they have
+-- whatever statements of a file the items are of, the draft is what they give, or the fault is the first that they have
 abbrev pub DraftsAll : List ℕ → List Item → Result Draft ModelFault → Type 0
-DraftsAll text items (Ok d) = (ss : List Statement) → items ≡ items_of ss → after_all text nothing_yet ss ≡ Ok d
-DraftsAll text items (Err f) = (f ≡ NoMemory) ⊎ ((ss : List Statement) → items ≡ items_of ss → after_all text nothing_yet ss ≡ Err f)
+DraftsAll text items (Ok d) = (ts : List Lexeme) (ss : List Statement) → IsFile ts ss → items ≡ items_of ss → after_all text nothing_yet ss ≡ Ok d
+DraftsAll text items (Err f) = (f ≡ NoMemory) ⊎ ((ts : List Lexeme) (ss : List Statement) → IsFile ts ss → items ≡ items_of ss → after_all text nothing_yet ss ≡ Err f)
+
+-- the model of a draft, or the fault that it has; want of memory says nothing
+abbrev pub FinishesAs : Result Model ModelFault → Result Model ModelFault → Type 0
+FinishesAs r (Ok m) = r ≡ Ok m
+FinishesAs r (Err f) = (f ≡ NoMemory) ⊎ (r ≡ Err f)
+
+-- what the reader answers to a fault of the lexer
+abbrev pub of_lexer : LexFault → ModelFault
+of_lexer (BadByte p) = Lex (BadByte p)
+of_lexer (LongName p) = Lex (LongName p)
+of_lexer (OpenBlock p) = Lex (OpenBlock p)
+of_lexer (Dollar p) = Lex (Dollar p)
+of_lexer (Number p) = Lex (Number p)
+of_lexer NoMemoryForTokens = NoMemory

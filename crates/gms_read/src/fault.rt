@@ -48,3 +48,16 @@ impl<T: Drop> From<AllocFailed<T>> for ModelFault {
         ModelFault::NoMemory
     }
 }
+
+impl From<LexFault> for ModelFault {
+    ghost use Rattle.gms_read.specs.Steps.{of_lexer};
+
+    ghost from_gives = { λ f e. e ≡ of_lexer f };
+
+    fn from(fault: LexFault) -> Self {
+        match fault {
+            LexFault::NoMemory => ModelFault::NoMemory,
+            _ => ModelFault::Lex(fault),
+        }
+    }
+}

@@ -90,20 +90,27 @@ pub struct Lexeme {
     pub place: Place,
 }
 
-ghost use Rattle.std.specs.Prelude.{◌≡◌};
+ghost use Rattle.std.specs.Prelude.{◌≡◌, slice_range};
 ghost use Rattle.gms_read.specs.Lexemes.{spelling};
+
+/// The bytes of a text from `from` up to and without `to`.
+pub fn part(text: &[u8], from: u32, to: u32) -> &[u8]
+    ensures { result.now ≡ slice_range text.now from to }
+{
+    let from = from as usize;
+    let to = (to as usize).min(text.len());
+    if from < to {
+        &text[from..to]
+    } else {
+        &text[..0]
+    }
+}
 
 impl Lexeme {
     /// Its bytes in the text.
     pub fn spelling(self, text: &[u8]) -> &[u8]
         ensures { result.now ≡ spelling text.now self }
     {
-        let from = self.from as usize;
-        let to = (self.to as usize).min(text.len());
-        if from < to {
-            &text[from..to]
-        } else {
-            &text[..0]
-        }
+        part(text, self.from, self.to)
     }
 }
