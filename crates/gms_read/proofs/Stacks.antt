@@ -1,8 +1,10 @@
--- A list of which the last item is on top.
-use Rattle.std.proofs.Common.{◌≡◌, ℕ, List, [], ◌∷◌, ◌++◌, reverse}
+-- The top of a stack is the last of its vector.
+use Rattle.std.proofs.Common.{◌≡◌, List, [], ◌∷◌, ◌++◌, reverse}
 use Rattle.std.proofs.lemmas.List.{reverse-append, reverse-reverse}
 
-pub reverse_push : (xs : List ℕ) (x : ℕ) → reverse (xs ++ x ∷ []) ≡ x ∷ reverse xs
+pub reverse_push : {X : Type 0} (xs : List X) (x : X) → reverse (xs ++ x ∷ []) ≡ x ∷ reverse xs
 reverse_push xs x = reverse-append xs (x ∷ [])
 
-pub ruleset stacking = (reverse_push, reverse-reverse)
+pub ruleset stacking = (reverse_push)
+
+pub ruleset turning = (reverse_push, reverse-reverse)

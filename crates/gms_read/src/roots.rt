@@ -19,7 +19,7 @@ impl Model for Roots {
     ghost view = { λ s. reverse s.items.items };
 }
 
-#[tactic(auto, using(crate::proofs::Stacks::stacking))]
+#[tactic(auto, using(crate::proofs::Stacks::turning))]
 impl Roots {
     /// No roots.
     pub fn new(alloc: Global) -> Roots
