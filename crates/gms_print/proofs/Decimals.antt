@@ -1,9 +1,9 @@
 -- The digits of a rest over a denominator.
 use Rattle.std.proofs.Common.{◌≡◌, ◌≢◌, ℕ, zero, suc, ◌+◌, ◌-◌, ◌*◌, ◌/◌, ◌%◌, ◌^◌, ◌<◌, ◌≤◌, ℤ, pos, negsuc, ◌<ℤ◌, ◌≤ℤ◌, unsigned_abs, Bool, true, false, nat_eq, nat_lt, ◌&&◌, List, [], ◌∷◌, ◌++◌, length, All, codes, decimal, arith, refl, sym, ap, subst, ◌∙◌, append_assoc, append-nil, length-append, mod-lt, ne_eqb, to_z-of_z}
 use Prim.Native.Nat.{◌∣◌}
-use Rattle.std.proofs.Math.Nat.{div-add-mod, div-lt_iff_lt-mul, mul-le-mul_left, pow-suc, pow-le-pow_right, dvd-mul_left, dvd-mul_right, dvd-mul_left_of_dvd, dvd-add_iff_right}
+use Rattle.std.proofs.Math.Nat.{div-add-mod, div-lt_iff_lt-mul, pow-suc, pow-le-pow_right, dvd-mul_right, dvd-mul_left_of_dvd, dvd-add_iff_right}
 use Rattle.std.proofs.lemmas.Nat.{pow-add}
-use Rattle.std.proofs.lemmas.Nat.Gcd.{le_of_dvd, dvd_trans}
+use Rattle.std.proofs.lemmas.Nat.Gcd.{le_of_dvd}
 use Rattle.std.proofs.lemmas.Int.{ints}
 use Rattle.std.proofs.lemmas.Bool.{lt-ltb}
 use Rattle.std.proofs.lemmas.List.Elements.{All-push, All-nil}

@@ -1,10 +1,8 @@
 -- The lines of a model, one after another.
-use Rattle.std.proofs.Common.{◌≡◌, ℕ, zero, suc, ◌+◌, ◌<◌, ◌≤◌, List, [], ◌∷◌, ◌++◌, map, length, take, drop, get_or, All, codes, Option, Some, None, arith, refl, sym, ap, subst, ◌∙◌, append_assoc, append-nil, add-one}
+use Rattle.std.proofs.Common.{◌≡◌, ℕ, zero, suc, ◌+◌, ◌<◌, ◌≤◌, List, [], ◌∷◌, ◌++◌, length, drop, get_or, All, codes, Some, None, arith, refl, sym, ap, subst, ◌∙◌, append_assoc, append-nil}
 use Rattle.std.proofs.lemmas.List.{drop_more, drop_all}
-use Rattle.std.proofs.lemmas.List.Elements.{All-get_or}
 use Rattle.emp_num.specs.declared.frac.Frac.{Frac}
 use Rattle.emp_ast.specs.declared.model.Equation.{Equation}
-use Rattle.emp_ast.specs.declared.model.End.{End}
 use Rattle.emp_ast.specs.declared.model.End.TheVariants.{Open, At}
 use Rattle.emp_ast.specs.declared.model.Variable.{Variable}
 use Rattle.emp_ast.specs.declared.tree.VarId.{VarId}
@@ -17,7 +15,7 @@ use Rattle.gms_print.specs.Canonical.EquationLines.{no_equations, an_equation}
 use Rattle.gms_print.specs.Canonical.EndLine.{no_end, an_end}
 use Rattle.gms_print.specs.Canonical.BoundLines.{no_variables, a_variable}
 use Rattle.gms_print.specs.Decimals.{Adds}
-use Rattle.gms_print.specs.Marks.{names_of, PrintsTree}
+use Rattle.gms_print.specs.Marks.{PrintsTree}
 use Rattle.gms_print.specs.Lines.{goal_word, before_name, after_names, IsPrintableEquation, IsEquationLine, IsPrintableVariable, IsBoundLines}
 
 -- ---- names

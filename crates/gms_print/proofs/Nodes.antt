@@ -1,23 +1,20 @@
 -- From the nodes of a tree to the text of its expression.
 use Rattle.std.proofs.Common.{◌≡◌, ℕ, zero, suc, ◌+◌, ◌-◌, ◌<◌, ◌≤◌, Bool, true, false, not, ◌||◌, List, [], ◌∷◌, ◌++◌, map, length, take, drop, get_or, codes, decimal, arith, refl, sym, ap, subst, ◌∙◌, append_assoc, append-nil, length-append, slice_index_or}
 use Rattle.std.proofs.lemmas.List.{take-append-drop, take_more, drop_all, length-take-le, get_or-map}
-use Rattle.std.proofs.Math.Seq.{take-append_seam, drop-append_seam}
-use Rattle.emp_num.specs.declared.frac.Frac.{Frac}
 use Rattle.emp_ast.specs.declared.model.Variable.{Variable}
 use Rattle.emp_ast.specs.declared.tree.Operator.{Operator}
 use Rattle.emp_ast.specs.declared.tree.Operator.TheVariants.{Plus, Minus, Times, Over}
 use Rattle.emp_ast.specs.declared.tree.Node.{Node}
-use Rattle.emp_ast.specs.declared.tree.Node.TheVariants.{Number, Var, Neg, Add, Sub, Mul, Div, Power}
+use Rattle.emp_ast.specs.declared.tree.Node.TheVariants.{Number, Var, Neg, Power}
 use Rattle.emp_ast.specs.declared.tree.Tree.{Tree}
-use Rattle.emp_ast.specs.Expression.{Expression, number, variable, negated, joined, power, size, root, join_node, nodes_from, IsTreeOf}
+use Rattle.emp_ast.specs.Expression.{Expression, number, variable, negated, joined, power, size, root, join_node, nodes_from}
 use Rattle.gms_print.specs.declared.shape.Shape.{Shape}
 use Rattle.gms_print.specs.declared.shape.Shape.TheVariants.{Base, Raised, Product, Sum}
 use Rattle.gms_print.specs.declared.mark.Mark.{Mark}
-use Rattle.gms_print.specs.Canonical.{IsNumeral, wrapped, is_sum, is_product, is_base, is_sum_operator, is_left_wrapped, is_right_wrapped, operator_text, power_text, Prints}
+use Rattle.gms_print.specs.Canonical.{wrapped, is_sum, is_product, is_base, is_left_wrapped, is_right_wrapped, operator_text, power_text, Prints}
 use Rattle.gms_print.specs.Canonical.Prints.{prints_number, prints_variable, prints_negated, prints_joined, prints_power}
-use Rattle.gms_print.specs.Decimals.{Adds, HasDecimal}
-use Rattle.gms_print.specs.Marks.{is_sum_shape, is_product_shape, is_base_shape, joined_shape, raised_shape, wraps_left, wraps_right, shape_of, Page, page, Ends, TakesMark, Encloses, Negates, Joins, Raises, AddsNumeral, Steps, names_of, HasDecimals, IsPrintable, PrintsTree}
-use Rattle.gms_print.proofs.Marks.{seam_inserted, last_taken}
+use Rattle.gms_print.specs.Decimals.{Adds}
+use Rattle.gms_print.specs.Marks.{is_sum_shape, is_product_shape, is_base_shape, joined_shape, raised_shape, wraps_left, wraps_right, shape_of, Page, page, Ends, Negates, Joins, Raises, Steps, names_of, HasDecimals, IsPrintable, PrintsTree}
 
 -- ---- names
 pub name_there : (vs : List Variable) (v : Variable) (at : ℕ) → at < length vs → v ≡ get_or vs at v → get_or (names_of vs) at [] ≡ v.name

@@ -1,26 +1,22 @@
 -- A model that some text stands for is printed: each of its numbers has a decimal.
-use Rattle.std.proofs.Common.{◌≡◌, ◌⊎◌, inl, inr, ℕ, zero, suc, ◌+◌, ◌*◌, ◌^◌, ◌<◌, ◌≤◌, ℤ, pos, negsuc, ◌*ℤ◌, ◌<ℤ◌, unsigned_abs, Bool, true, false, List, length, All, Ok, Err, arith, refl, sym, ap, subst, ◌∙◌}
+use Rattle.std.proofs.Common.{◌≡◌, ◌⊎◌, inl, inr, ℕ, zero, suc, ◌*◌, ◌^◌, ◌<◌, ◌≤◌, ℤ, pos, negsuc, unsigned_abs, Bool, true, false, List, [], ◌++◌, length, Ok, arith, refl, sym, ap, subst, ◌∙◌}
 use Prim.Native.Nat.{◌∣◌}
-use Rattle.std.specs.Int.{IsGcd}
-use Rattle.std.proofs.Math.Nat.{dvd-mul_left, pow-le-pow_right, one-dvd}
-use Rattle.std.proofs.lemmas.Int.{ints, unsigned_abs-mul}
+use Rattle.std.proofs.Math.Nat.{dvd-mul_left, pow-le-pow_right}
+use Rattle.std.proofs.lemmas.Int.{unsigned_abs-mul}
 use Rattle.std.proofs.lemmas.Nat.Gcd.{dvd_refl, dvd-zero}
 use Rattle.std.proofs.lemmas.List.Elements.{All-weaker}
 use Rattle.emp_num.specs.declared.frac.Frac.{Frac}
-use Rattle.emp_num.specs.Exact.{IsCoprime}
 use Rattle.emp_num.specs.FracSpec.{IsQuotient}
-use Rattle.emp_num.specs.Numeral.{top_of, bottom_of, Small, FormedSmall, DecimalGives, FormGives, NumeralGives, numeral_form, mantissa, whole_of, fraction_of, tail_of, scale, exponent_negative, exponent_digits, value_from}
+use Rattle.emp_num.specs.Numeral.{FormedSmall, DecimalGives, FormGives, numeral_form, mantissa, whole_of, fraction_of, tail_of, scale, exponent_negative, exponent_digits, value_from}
 use Rattle.emp_num.specs.Opposite.{opposite}
 use Rattle.emp_num.proofs.Lowest.{gauss, coprime-IsGcd}
 use Rattle.emp_num.proofs.Numerals.{power_above}
 use Rattle.emp_ast.specs.declared.tree.Tree.{Tree}
-use Rattle.emp_ast.specs.declared.model.Equation.{Equation}
 use Rattle.emp_ast.specs.declared.model.End.{End}
 use Rattle.emp_ast.specs.declared.model.End.TheVariants.{Open, At}
-use Rattle.emp_ast.specs.declared.model.Variable.{Variable}
 use Rattle.emp_ast.specs.declared.model.Model.{Model}
 use Rattle.emp_ast.specs.Expression.{Expression, number, variable, negated, joined, power}
-use Rattle.gms_print.specs.Decimals.{HasPlaces, HasDecimal}
+use Rattle.gms_print.specs.Decimals.{Adds, HasPlaces, HasDecimal}
 use Rattle.gms_print.specs.Marks.{HasDecimals, IsPrintable}
 use Rattle.gms_print.specs.Lines.{IsPrintableEquation, IsPrintableEnd, IsPrintableVariable, IsPrintableModel}
 use Rattle.gms_print.proofs.Sound.{IsValue, SoundExpression, SoundTree, SoundEquation, SoundEnd, SoundVariable, Sound}
@@ -104,3 +100,7 @@ printable_model m h =
       equations = All-weaker (SoundEquation count) IsPrintableEquation (λ e s. record { left = printable_tree count e.left s.left; right = printable_tree count e.right s.right }) m.equations h.equations;
       variables = All-weaker SoundVariable IsPrintableVariable (λ v s. record { low = printable_end v.low s.low; high = printable_end v.high s.high }) m.variables h.variables;
     }
+
+-- what is written behind no text is the text itself
+pub alone : (P : List ℕ → Type 0) (start out : List ℕ) → start ≡ [] → Adds P start out → P out
+alone P start out e g = subst (λ t. P t) (sym (g.is ∙ ap (λ s. s ++ g.text) e)) g.fact

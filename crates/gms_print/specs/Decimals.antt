@@ -1,5 +1,5 @@
 -- Numbers that decimals write.
-use Rattle.std.specs.Prelude.{◌≡◌, ℕ, ◌*◌, ◌^◌, ◌≤◌, ◌++◌, unsigned_abs, Bool, true, List, [], ◌∷◌, length, All, codes}
+use Rattle.std.specs.Prelude.{◌≡◌, ℕ, ◌*◌, ◌^◌, ◌≤◌, ◌++◌, unsigned_abs, true, List, [], ◌∷◌, length, All, codes}
 use Prim.Native.Nat.{◌∣◌}
 use Rattle.emp_num.specs.declared.frac.Frac.{Frac}
 use Rattle.emp_num.specs.Numeral.{digit, value_from, trimmed}

@@ -1,5 +1,5 @@
 -- What the steps of printing the lines of a model write.
-use Rattle.std.specs.Prelude.{◌≡◌, ℕ, zero, suc, List, [], ◌∷◌, ◌++◌, map, All, codes, Option, Some, None}
+use Rattle.std.specs.Prelude.{◌≡◌, ℕ, zero, suc, List, [], ◌++◌, map, All, codes}
 use Rattle.emp_ast.specs.declared.model.Equation.{Equation}
 use Rattle.emp_ast.specs.declared.model.End.{End}
 use Rattle.emp_ast.specs.declared.model.End.TheVariants.{Open, At}
@@ -7,7 +7,7 @@ use Rattle.emp_ast.specs.declared.model.Variable.{Variable}
 use Rattle.emp_ast.specs.declared.model.Sense.{Sense}
 use Rattle.emp_ast.specs.declared.model.Sense.TheVariants.{Min, Max}
 use Rattle.emp_ast.specs.declared.model.Model.{Model}
-use Rattle.gms_print.specs.Canonical.{names_line, more_names, relation_text, EquationLines, EndLine, BoundLines}
+use Rattle.gms_print.specs.Canonical.{relation_text, EndLine}
 use Rattle.gms_print.specs.Decimals.{HasDecimal}
 use Rattle.gms_print.specs.Marks.{IsPrintable, PrintsTree}
 

@@ -7,7 +7,9 @@ ghost use Rattle.gms_print.specs.Marks.{names_of};
 ghost use Rattle.gms_print.specs.Lines.{goal_word, IsPrintableModel};
 
 use crate::expression::write_variable;
-use crate::model_lines::{write_bounds, write_equation_names, write_equations, write_variable_names};
+use crate::model_lines::{
+    write_bounds, write_equation_names, write_equations, write_variable_names,
+};
 use emp_ast::model::{Model, Sense, Variable};
 use emp_ast::tree::VarId;
 use std::alloc::{AllocError, Global};
@@ -69,7 +71,7 @@ fn write_model(alloc: Global, out: &mut Vec<u8>, model: &Model) -> Result<(), Al
 
 /// The canonical text of a model, as `specs/Canonical.antt` defines it.
 ///
-/// A model for which no text stands is printed too: as far as it can be, and by what no reader need read.
+/// Of a model that no text stands for it writes some text.
 pub fn print_model(alloc: Global, model: &Model) -> Result<Vec<u8>, AllocError>
     ensures canonical { HasText model.now → IfOk result (λ v. IsCanonical model.now v.items) }
 {

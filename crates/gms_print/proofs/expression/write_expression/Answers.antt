@@ -1,4 +1,4 @@
-use Rattle.std.proofs.Common.{◌≡◌, ◌<◌, ◌≤◌, [], length, take, get_or, subst}
+use Rattle.std.proofs.Common.{◌≡◌, ◌<◌, ◌≤◌, [], length, get_or, subst}
 use Rattle.std.proofs.lemmas.List.{take_all}
 use Rattle.gms_print.specs.Marks.{page, names_of}
 use Rattle.gms_print.proofs.Nodes.{Runs, taken_run, tree_written}

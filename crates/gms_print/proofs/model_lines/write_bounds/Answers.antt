@@ -1,5 +1,3 @@
-use Rattle.std.specs.Prelude.{All}
-use Rattle.gms_print.specs.Lines.{IsPrintableVariable}
 use Rattle.gms_print.proofs.ModelLines.{bounds_more, bounds_end, printable_variable}
 use Rattle.gms_print.proofs.model_lines.write_bounds.Goals as goal
 

@@ -1,5 +1,4 @@
 use Rattle.std.proofs.Common.{◌≡◌, ◌++◌, subst, sym}
-use Rattle.emp_ast.specs.declared.model.End.TheVariants.{Open, At}
 use Rattle.gms_print.specs.Canonical.{IsNumeral, EndLine}
 use Rattle.gms_print.specs.Decimals.{Adds}
 use Rattle.gms_print.specs.Lines.{IsPrintableEnd}

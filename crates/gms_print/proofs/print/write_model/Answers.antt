@@ -1,4 +1,4 @@
-use Rattle.std.proofs.Common.{◌≡◌, ◌++◌, All, codes, subst, sym, ap, ◌∙◌}
+use Rattle.std.proofs.Common.{◌≡◌, ◌++◌, All, codes, subst, ap, ◌∙◌}
 use Rattle.gms_print.specs.Canonical.{names_line, EquationLines, BoundLines}
 use Rattle.gms_print.specs.Decimals.{Adds}
 use Rattle.gms_print.specs.Marks.{names_of}
