@@ -1,5 +1,6 @@
 pub mod BoundLines
 pub mod Cutting
+pub mod Decimals
 pub mod Depths
 pub mod Drafts
 pub mod Effects
@@ -12,10 +13,14 @@ pub mod Expressions
 pub mod GoodTexts
 pub mod LastLines
 pub mod Lines
+pub mod Marks
+pub mod ModelLines
 pub mod NamesLines
+pub mod Nodes
 pub mod Numerals
 pub mod OneTree
 pub mod Pieces
+pub mod Printable
 pub mod Sound
 pub mod Soundness
 pub mod Tables
