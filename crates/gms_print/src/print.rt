@@ -1,7 +1,7 @@
 //! Models as text.
 ghost use Rattle.std.specs.Prelude.{◌≡◌, ◌++◌, OnOk, IfOk};
 ghost use Rattle.gms_print.specs.Canonical.{goal_text, last_lines, IsCanonical};
-ghost use Rattle.gms_print.specs.ReadsBack.{HasText};
+ghost use Rattle.gms_print.specs.ReadsBack.{HasText, ReadsBack};
 ghost use Rattle.gms_print.specs.Decimals.{Adds};
 ghost use Rattle.gms_print.specs.Marks.{names_of};
 ghost use Rattle.gms_print.specs.Lines.{goal_word, IsPrintableModel};
@@ -69,11 +69,12 @@ fn write_model(alloc: Global, out: &mut Vec<u8>, model: &Model) -> Result<(), Al
     Ok(())
 }
 
-/// The canonical text of a model, as `specs/Canonical.antt` defines it.
+/// The canonical text of a model, as `specs/Canonical.antt` defines it. It stands for the same model, places aside.
 ///
 /// Of a model that no text stands for it writes some text.
 pub fn print_model(alloc: Global, model: &Model) -> Result<Vec<u8>, AllocError>
     ensures canonical { HasText model.now → IfOk result (λ v. IsCanonical model.now v.items) }
+    ensures reads_back { HasText model.now → IfOk result (λ v. ReadsBack v.items model.now) }
 {
     let mut out = Vec::new(alloc);
     write_model(alloc, &mut out, model)?;
