@@ -45,7 +45,7 @@ before_pushed : (x : ℕ) (xs : List ℕ) (b : ℕ) → before_trimmed x (xs ++ 
 before_pushed x [] b = refl
 before_pushed x (c ∷ cs) b = refl
 
-trimmed_other : (xs : List ℕ) (b : ℕ) → nat_eq b 48 ≡ false → trimmed (xs ++ b ∷ []) ≡ xs ++ b ∷ []
+pub trimmed_other : (xs : List ℕ) (b : ℕ) → nat_eq b 48 ≡ false → trimmed (xs ++ b ∷ []) ≡ xs ++ b ∷ []
 trimmed_other [] b e = ap (λ d. cond d [] (b ∷ [])) e
 trimmed_other (x ∷ xs) b e = ap (before_trimmed x) (trimmed_other xs b e) ∙ before_pushed x xs b
 

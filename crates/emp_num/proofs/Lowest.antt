@@ -36,7 +36,7 @@ gauss a b (suc c) h d =
     let e : suc c * 1 ≡ suc c = omega arith in
     subst (λ x. a ∣ x) e (k.2 a (dvd-mul_left a (suc c)) (subst (λ x. a ∣ x) (mul_comm b (suc c)) d))
 
-coprime-IsGcd : (n d : ℤ) → IsCoprime n d → IsGcd (unsigned_abs d) (unsigned_abs n) 1
+pub coprime-IsGcd : (n d : ℤ) → IsCoprime n d → IsGcd (unsigned_abs d) (unsigned_abs n) 1
 coprime-IsGcd n d h = (one-dvd (unsigned_abs d), one-dvd (unsigned_abs n), λ k p q. subst (λ x. x ∣ 1) (sym (h k q p)) (dvd_refl 1))
 
 pub same_lowest : (n d m e : ℤ) → IsCoprime n d → IsCoprime m e → pos 0 <ℤ d → pos 0 <ℤ e → n *ℤ e ≡ m *ℤ d → (n ≡ m) × (d ≡ e)

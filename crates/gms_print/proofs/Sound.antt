@@ -1,12 +1,11 @@
 -- What each model has that some text stands for.
-use Rattle.std.proofs.Common.{◌≡◌, ◌≢◌, ◌⊎◌, ℕ, zero, suc, ◌+◌, ◌<◌, ◌≤◌, max, Bool, true, false, cond, not, List, [], ◌∷◌, ◌++◌, length, All, AllPairs, Option, Some, None, Ok}
+use Rattle.std.proofs.Common.{◌≡◌, ◌≢◌, ◌⊎◌, ℕ, ◌+◌, ◌<◌, ◌≤◌, max, Bool, true, false, not, List, [], ◌∷◌, ◌++◌, length, All, AllPairs, Option, Some, None, Ok}
 use Rattle.emp_num.specs.declared.frac.Frac.{Frac}
 use Rattle.emp_num.specs.Numeral.{NumeralGives}
 use Rattle.emp_num.specs.Opposite.{opposite}
 use Rattle.emp_list.specs.Case.{lower}
 use Rattle.emp_ast.specs.declared.tree.VarId.{VarId}
 use Rattle.emp_ast.specs.declared.tree.Tree.{Tree}
-use Rattle.emp_ast.specs.declared.tree.Operator.{Operator}
 use Rattle.emp_ast.specs.declared.model.Equation.{Equation}
 use Rattle.emp_ast.specs.declared.model.End.{End}
 use Rattle.emp_ast.specs.declared.model.End.TheVariants.{Open, At}

@@ -1,5 +1,5 @@
 -- The canonical text of a model.
-use Rattle.std.specs.Prelude.{◌≡◌, ℕ, zero, suc, ◌*◌, ◌^◌, ℤ, pos, negsuc, unsigned_abs, Bool, true, false, cond, not, ◌||◌, IsTrue, List, [], ◌∷◌, ◌++◌, map, length, All, codes, decimal, Option, Some, None, slice_index_or}
+use Rattle.std.specs.Prelude.{◌≡◌, ℕ, ◌*◌, ◌^◌, ℤ, pos, negsuc, unsigned_abs, Bool, true, false, not, ◌||◌, List, [], ◌∷◌, ◌++◌, length, All, codes, decimal, Option, Some, None, slice_index_or}
 use Rattle.emp_num.specs.declared.frac.Frac.{Frac}
 use Rattle.emp_num.specs.Numeral.{digit, value_from, trimmed}
 use Rattle.emp_ast.specs.declared.tree.VarId.{VarId}

@@ -3,7 +3,6 @@ use Rattle.std.specs.Prelude.{ℕ, List}
 use Rattle.emp_ast.specs.declared.model.Model.{Model}
 use Rattle.emp_ast.specs.Names.{SameModel}
 use Rattle.gms_read.specs.Texts.{IsModelText}
-use Rattle.gms_print.specs.Canonical.{IsCanonical}
 
 -- some text stands for the model
 pub record HasText (m : Model) : Type 0 where

@@ -1,6 +1,16 @@
+pub mod Agree
+pub mod Arguments
+pub mod Complete
+pub mod Declaring
+pub mod Expressions
 pub mod Finishes
+pub mod Formed
 pub mod Levels
+pub mod Meanings
+pub mod Performed
 pub mod Reading
 pub mod Sorts
+pub mod Stacks
 pub mod Tables
 pub mod WordLists
+pub mod Writing

@@ -199,11 +199,11 @@ gives text items r h e = record { statements = h.are.statements; has = record { 
 pub perform_refused : (text : List ℕ) (items : List Item) (f : ModelFault) → HasItems text items → DraftsAll text items (Err f) → RefusesModel text f
 perform_refused text items f h (inl e) = no_memory text f e
 perform_refused text items f h (inr d) =
-    let q = d h.are.statements h.are.are in
+    let q = d h.lexemes h.are.statements h.are.file h.are.are in
     rule_refused text f (step_fault _ f (after_all_rule text nothing_yet h.are.statements) q) (gives text items (Err f) h (ap whole_meaning_by q))
 
 pub finish_gives : (text : List ℕ) (items : List Item) (d : Draft) (r : Result WholeModel ModelFault) → HasItems text items → DraftsAll text items (Ok d) → FinishesAs (finish d) r → MatchResult r (IsModelText text) (RefusesModel text)
-finish_gives text items d (Ok m) h a e = gives text items (Ok m) h (ap whole_meaning_by (a h.are.statements h.are.are) ∙ e)
+finish_gives text items d (Ok m) h a e = gives text items (Ok m) h (ap whole_meaning_by (a h.lexemes h.are.statements h.are.file h.are.are) ∙ e)
 finish_gives text items d (Err f) h a (inl e) = no_memory text f e
 finish_gives text items d (Err f) h a (inr e) =
-    rule_refused text f (finish_rule _ d f (either _ _ (undefined_rule 0 d.equations d.defined) (crossing_rule 0 d.variables)) e) (gives text items (Err f) h (ap whole_meaning_by (a h.are.statements h.are.are) ∙ e))
+    rule_refused text f (finish_rule _ d f (either _ _ (undefined_rule 0 d.equations d.defined) (crossing_rule 0 d.variables)) e) (gives text items (Err f) h (ap whole_meaning_by (a h.lexemes h.are.statements h.are.file h.are.are) ∙ e))

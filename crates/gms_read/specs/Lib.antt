@@ -1,7 +1,11 @@
 pub mod Grammar
 pub mod Items
 pub mod Lexemes
+pub mod Machine
 pub mod Nesting
+pub mod Performing
 pub mod Rules
-pub mod Texts
+pub mod Shapes
+pub mod Sides
 pub mod Steps
+pub mod Texts

@@ -26,10 +26,10 @@ StandsForNone ts = (ss : List Statement) → IsFile ts ss → ⊥
 abbrev pub RefusesLexemes : List Lexeme → ModelFault → Type 0
 RefusesLexemes ts f = (f ≡ NoMemory) ⊎ ((p : Place) × (f ≡ Syntax p) × StandsForNone ts)
 
--- whatever statements the items are of, the draft is what they give, or the fault is the first that they have
+-- whatever statements of a file the items are of, the draft is what they give, or the fault is the first that they have
 abbrev pub DraftsAll : List ℕ → List Item → Result Draft ModelFault → Type 0
-DraftsAll text items (Ok d) = (ss : List Statement) → items ≡ items_of ss → after_all text nothing_yet ss ≡ Ok d
-DraftsAll text items (Err f) = (f ≡ NoMemory) ⊎ ((ss : List Statement) → items ≡ items_of ss → after_all text nothing_yet ss ≡ Err f)
+DraftsAll text items (Ok d) = (ts : List Lexeme) (ss : List Statement) → IsFile ts ss → items ≡ items_of ss → after_all text nothing_yet ss ≡ Ok d
+DraftsAll text items (Err f) = (f ≡ NoMemory) ⊎ ((ts : List Lexeme) (ss : List Statement) → IsFile ts ss → items ≡ items_of ss → after_all text nothing_yet ss ≡ Err f)
 
 -- the model of a draft, or the fault that it has; want of memory says nothing
 abbrev pub FinishesAs : Result Model ModelFault → Result Model ModelFault → Type 0
