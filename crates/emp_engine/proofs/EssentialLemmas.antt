@@ -1,13 +1,21 @@
 -- What is essential in a model text, lexeme by lexeme.
 use Rattle.std.proofs.Common.{◌≡◌, ℕ, ◌+◌, ◌-◌, ◌<◌, ◌≤◌, Bool, true, false, cond, not, ◌&&◌, ◌||◌, List, [], ◌∷◌, ◌++◌, length, Option, Some, None, take, drop, get_or, refl, sym, ap, subst, ◌∙◌, arith, append_assoc, append-nil}
-use Rattle.std.specs.Prelude.{filter, option_map, option_and_then, slice_range}
+use Rattle.std.specs.Prelude.{◌↔◌, Result, Ok, Err, MatchResult, filter, option_map, option_and_then, slice_range}
 use Rattle.std.proofs.lemmas.List.{drop_more, drop_all, take_more, length-drop, get_or-drop}
 use Rattle.std.proofs.Math.Seq.{take-length}
 use Rattle.emp_list.specs.Case.{same_name}
 use Rattle.gms_read.specs.declared.lexeme.Lexeme.{Lexeme}
 use Rattle.gms_read.specs.Lexemes.{spelling}
+use Rattle.emp_lex.specs.declared.fault.LexFault.{LexFault}
+use Rattle.emp_lex.specs.declared.fault.LexFault.TheVariants.{BadByte, LongName, OpenBlock, Dollar, Number, NoMemory as NoMemoryToLex}
+use Rattle.emp_lex.specs.Tokens.{Refuses}
+use Rattle.gms_read.specs.Texts.{HasLexemes}
+use Rattle.gms_read.proofs.OneText.{one_lexemes, none_with_fault}
+use Rattle.emp_engine.specs.declared.fault.ReadFault.{ReadFault}
+use Rattle.emp_engine.specs.declared.fault.ReadFault.TheVariants.{OtherForm, NoMemory}
+use Rattle.emp_engine.specs.FirstForm.{HasEssential}
 use Rattle.emp_engine.specs.declared.token.Token.{Token}
-use Rattle.emp_engine.specs.Essential.{is_text, is_semicolon, is_dot, is_model_word, is_start_value, without_texts, first_spelling, model_name, is_idle, unless_idle, essential_from, essential, token_of, tokens_of}
+use Rattle.emp_engine.specs.Essential.{is_text, is_semicolon, is_dot, is_model_word, is_start_value, without_texts, first_spelling, model_name, is_idle, unless_idle, essential_from, essential, token_of, tokens_of, essential_tokens}
 
 -- ---- lists of lexemes
 rest_at : (ts : List Lexeme) (i : ℕ) (t : Lexeme) → i < length ts → t ≡ get_or ts i t → drop i ts ≡ t ∷ drop (i + 1) ts
@@ -133,3 +141,28 @@ pub told_all : (text : List ℕ) (ts : List Lexeme) (i : ℕ) (found : List Toke
 told_all text ts i found h p = sym p.whole ∙ ap (λ r. option_map (λ ks. found ++ ks) (tokens_of text r)) (drop_all i ts h) ∙ ap Some (append-nil found)
 
 pub ruleset token_steps = (told_start, told_more, told_none, told_all)
+
+-- ---- whole texts
+-- a text says one list of tokens
+pub essential_one : (text : List ℕ) (ts us : List Token) → HasEssential text ts → HasEssential text us → ts ≡ us
+essential_one text ts us g h =
+    let same : h.lexemes ≡ g.lexemes = one_lexemes text h.lexemes g.lexemes h.has g.has in
+    let e : Some ts ≡ Some us = sym g.are ∙ ap (essential_tokens text) (sym same) ∙ h.are in
+    cc
+
+-- and none, if it has a fault
+pub refused : (text : List ℕ) (f : LexFault) (e : ReadFault) → Refuses text f → (e ≡ NoMemory) ↔ (f ≡ NoMemoryToLex) → e ≡ OtherForm → (ts : List Token) → HasEssential text ts → ⊥
+refused text (BadByte p) e r h k ts g = none_with_fault text g.lexemes (BadByte p) g.has r
+refused text (LongName p) e r h k ts g = none_with_fault text g.lexemes (LongName p) g.has r
+refused text (OpenBlock p) e r h k ts g = none_with_fault text g.lexemes (OpenBlock p) g.has r
+refused text (Dollar p) e r h k ts g = none_with_fault text g.lexemes (Dollar p) g.has r
+refused text (Number p) e r h k ts g = none_with_fault text g.lexemes (Number p) g.has r
+refused text NoMemoryToLex e r h k ts g = let m : e ≡ NoMemory = h.1 refl in cc
+
+module _ (text : List ℕ) (ls es : List Lexeme) (has : HasLexemes text ls) (same : es ≡ essential text (without_texts ls)) where
+  of_lexemes : (us : List Lexeme) (o : Option (List Token)) → HasLexemes text us → essential_tokens text us ≡ o → tokens_of text es ≡ o
+  of_lexemes us o h e = ap (tokens_of text) same ∙ ap (essential_tokens text) (one_lexemes text ls us has h) ∙ e
+
+  pub gives_essential : (V : Type 0) (items : V → List Token) (r : Result V ReadFault) → MatchResult r (λ v. tokens_of text es ≡ Some (items v)) (λ e. e ≡ OtherForm → tokens_of text es ≡ None) → MatchResult r (λ v. HasEssential text (items v)) (λ e. e ≡ OtherForm → (ts : List Token) → HasEssential text ts → ⊥)
+  gives_essential V items (Ok v) h = record { lexemes = ls; has = has; are = ap (tokens_of text) (sym same) ∙ h }
+  gives_essential V items (Err e) h = λ k ts g. let some : tokens_of text es ≡ Some ts = of_lexemes g.lexemes (Some ts) g.has g.are in let none : tokens_of text es ≡ None = h k in cc

@@ -1,7 +1,7 @@
 //! What the first form asks of a model text: its lexemes but for texts, empty statements and settings that are ignored.
 //!
 //! Comments and dollar lines have no lexemes.
-ghost use Rattle.std.specs.Prelude.{◌≡◌, ◌<◌, ◌&&◌, ◌||◌, ◌++◌, List, Some, None, length, IfOk, OnOk, MatchResult};
+ghost use Rattle.std.specs.Prelude.{◌≡◌, ◌↔◌, ◌<◌, ◌&&◌, ◌||◌, ◌++◌, List, Some, None, length, IfOk, OnOk, MatchResult};
 ghost use Rattle.emp_list.specs.Case.{same_name};
 ghost use Rattle.gms_read.specs.Lexemes.{spelling};
 ghost use Rattle.emp_engine.specs.Essential.{is_text, is_semicolon, is_dot, is_model_word, is_start_value, without_texts, first_spelling, model_name, is_idle, unless_idle, essential, numeral_token, relation_token, sign_of, token_of, tokens_of};
@@ -202,6 +202,16 @@ fn tokens_of(alloc: Global, text: &[u8], lexemes: &[Lexeme]) -> Result<Vec<Token
     Ok(found)
 }
 
+/// Every fault but want of memory makes the text one of another form.
+fn refusal(fault: LexFault) -> ReadFault
+    ensures { (result ≡ ReadFault.NoMemory) ↔ (fault ≡ LexFault.NoMemory) }
+{
+    match fault {
+        LexFault::NoMemory => ReadFault::NoMemory,
+        _ => ReadFault::OtherForm,
+    }
+}
+
 /// The tokens of what is essential in the model text. `OtherForm` comes exactly where the form has no such tokens.
 pub fn essential_tokens(alloc: Global, text: &[u8]) -> Result<Vec<Token>, ReadFault>
     requires { length text.now < 4294967295 }
@@ -209,8 +219,7 @@ pub fn essential_tokens(alloc: Global, text: &[u8]) -> Result<Vec<Token>, ReadFa
 {
     let found = match tokens(alloc, text) {
         Ok(found) => found,
-        Err(LexFault::NoMemory) => return Err(ReadFault::NoMemory),
-        Err(_) => return Err(ReadFault::OtherForm),
+        Err(fault) => return Err(refusal(fault)),
     };
     let lexemes = lexemes(alloc, text, found.as_slice())?;
     let without = without_texts(alloc, lexemes.as_slice())?;
