@@ -1,8 +1,10 @@
 //! What the first form asks of a model text: its lexemes but for texts, empty statements and settings that are ignored.
 //!
 //! Comments and dollar lines have no lexemes.
-ghost use Rattle.std.specs.Prelude.{◌≡◌, ◌<◌, ◌++◌, List, Some, None, length, IfOk, OnOk, MatchResult};
-ghost use Rattle.emp_engine.specs.Essential.{without_texts, model_name, is_idle, unless_idle, essential, numeral_token, relation_token, sign_of, token_of, tokens_of};
+ghost use Rattle.std.specs.Prelude.{◌≡◌, ◌↔◌, ◌<◌, ◌&&◌, ◌||◌, ◌++◌, List, Some, None, length, IfOk, OnOk, MatchResult};
+ghost use Rattle.emp_list.specs.Case.{same_name};
+ghost use Rattle.gms_read.specs.Lexemes.{spelling};
+ghost use Rattle.emp_engine.specs.Essential.{is_text, is_semicolon, is_dot, is_model_word, is_start_value, without_texts, first_spelling, model_name, is_idle, unless_idle, essential, numeral_token, relation_token, sign_of, token_of, tokens_of};
 ghost use Rattle.emp_engine.specs.FirstForm.{HasEssential};
 ghost use Rattle.emp_engine.specs.declared.token.Token.{Token};
 
@@ -18,45 +20,88 @@ use gms_read::lexemes::lexemes;
 use std::alloc::{AllocError, Global};
 
 // ---- what is left out
+fn is_text(sort: Sort) -> bool
+    ensures { result ≡ is_text sort }
+{
+    matches!(sort, Sort::Text)
+}
+
+fn is_semicolon(sort: Sort) -> bool
+    ensures { result ≡ is_semicolon sort }
+{
+    matches!(sort, Sort::Semicolon)
+}
+
+fn is_dot(sort: Sort) -> bool
+    ensures { result ≡ is_dot sort }
+{
+    matches!(sort, Sort::Dot)
+}
+
+fn is_model_word(sort: Sort) -> bool
+    ensures { result ≡ is_model_word sort }
+{
+    matches!(sort, Sort::Model)
+}
+
+fn is_start_value(sort: Sort) -> bool
+    ensures { result ≡ is_start_value sort }
+{
+    matches!(sort, Sort::Name(Word::Level | Word::Marginal))
+}
+
 /// The lexemes that are no texts.
+#[tactic(auto, using(crate::proofs::EssentialLemmas::leaving_texts))]
 fn without_texts(alloc: Global, lexemes: &[Lexeme]) -> Result<Vec<Lexeme>, AllocError>
     ensures { IfOk result (λ v. v.items ≡ without_texts lexemes.now) }
 {
     let mut found = Vec::new(alloc);
     for lexeme in lexemes {
-        if !matches!(lexeme.sort, Sort::Text) {
+        if !is_text(lexeme.sort) {
             found.push(*lexeme)?;
         }
     }
     Ok(found)
 }
 
+fn first_spelling<'a>(text: &'a [u8], lexemes: &[Lexeme]) -> &'a [u8]
+    ensures { result.now ≡ first_spelling text.now lexemes.now }
+{
+    match lexemes {
+        [name, ..] => name.spelling(text),
+        [] => &text[..0],
+    }
+}
+
 /// The name behind the word `model`.
+#[tactic(auto, using(crate::proofs::EssentialLemmas::naming))]
 fn model_name<'a>(text: &'a [u8], lexemes: &[Lexeme]) -> &'a [u8]
     ensures { result.now ≡ model_name text.now lexemes.now }
 {
     for at in 0..lexemes.len() {
-        if matches!(lexemes[at].sort, Sort::Model) {
-            return match lexemes.get(at + 1) {
-                Some(name) => name.spelling(text),
-                None => &text[..0],
-            };
+        if is_model_word(lexemes[at].sort) {
+            return first_spelling(text, &lexemes[at + 1..]);
         }
     }
     &text[..0]
 }
 
+/// Whether a statement that begins so sets a start value or the model.
+fn is_setting(text: &[u8], name: &[u8], whose: Lexeme, dot: Lexeme, which: Lexeme) -> bool
+    ensures { result ≡ (is_dot dot.sort && (is_start_value which.sort || same_name (spelling text.now whose) name.now)) }
+{
+    is_dot(dot.sort)
+        && (is_start_value(which.sort) || whose.spelling(text).eq_ignore_ascii_case(name))
+}
+
 /// Whether a statement is empty, or sets a start value or the model.
+#[tactic(auto, using(crate::proofs::EssentialLemmas::idle_setting))]
 fn is_idle(text: &[u8], name: &[u8], statement: &[Lexeme]) -> bool
     ensures { result ≡ is_idle text.now name.now statement.now }
 {
     match statement {
-        [only] => matches!(only.sort, Sort::Semicolon),
-        [whose, dot, which, ..] => {
-            matches!(dot.sort, Sort::Dot)
-                && (matches!(which.sort, Sort::Name(Word::Level | Word::Marginal))
-                    || whose.spelling(text).eq_ignore_ascii_case(name))
-        }
+        [only] => is_semicolon(only.sort),
+        [whose, dot, which, ..] => is_setting(text, name, *whose, *dot, *which),
         _ => false,
     }
 }
@@ -77,6 +122,7 @@ fn keep(
 }
 
 /// The lexemes without the statements that are idle.
+#[tactic(auto, using(crate::proofs::EssentialLemmas::keeping))]
 fn essential(alloc: Global, text: &[u8], lexemes: &[Lexeme]) -> Result<Vec<Lexeme>, AllocError>
     ensures { IfOk result (λ v. v.items ≡ essential text.now lexemes.now) }
 {
@@ -84,7 +130,7 @@ fn essential(alloc: Global, text: &[u8], lexemes: &[Lexeme]) -> Result<Vec<Lexem
     let mut kept = Vec::new(alloc);
     let mut start = 0;
     for at in 0..lexemes.len() {
-        if matches!(lexemes[at].sort, Sort::Semicolon) {
+        if is_semicolon(lexemes[at].sort) {
             keep(text, name, &lexemes[start..at + 1], &mut kept)?;
             start = at + 1;
         }
@@ -145,6 +191,7 @@ fn token_of(alloc: Global, text: &[u8], lexeme: Lexeme) -> Result<Token, ReadFau
     found.ok_or(ReadFault::OtherForm)
 }
 
+#[tactic(auto, using(crate::proofs::EssentialLemmas::token_steps))]
 fn tokens_of(alloc: Global, text: &[u8], lexemes: &[Lexeme]) -> Result<Vec<Token>, ReadFault>
     ensures { MatchResult result (λ v. tokens_of text.now lexemes.now ≡ Some v.items) (λ e. e ≡ ReadFault.OtherForm → tokens_of text.now lexemes.now ≡ None) }
 {
@@ -155,6 +202,16 @@ fn tokens_of(alloc: Global, text: &[u8], lexemes: &[Lexeme]) -> Result<Vec<Token
     Ok(found)
 }
 
+/// Every fault but want of memory makes the text one of another form.
+fn refusal(fault: LexFault) -> ReadFault
+    ensures { (result ≡ ReadFault.NoMemory) ↔ (fault ≡ LexFault.NoMemory) }
+{
+    match fault {
+        LexFault::NoMemory => ReadFault::NoMemory,
+        _ => ReadFault::OtherForm,
+    }
+}
+
 /// The tokens of what is essential in the model text. `OtherForm` comes exactly where the form has no such tokens.
 pub fn essential_tokens(alloc: Global, text: &[u8]) -> Result<Vec<Token>, ReadFault>
     requires { length text.now < 4294967295 }
@@ -162,8 +219,7 @@ pub fn essential_tokens(alloc: Global, text: &[u8]) -> Result<Vec<Token>, ReadFa
 {
     let found = match tokens(alloc, text) {
         Ok(found) => found,
-        Err(LexFault::NoMemory) => return Err(ReadFault::NoMemory),
-        Err(_) => return Err(ReadFault::OtherForm),
+        Err(fault) => return Err(refusal(fault)),
     };
     let lexemes = lexemes(alloc, text, found.as_slice())?;
     let without = without_texts(alloc, lexemes.as_slice())?;
