@@ -18,3 +18,4 @@ pub mod ParsingTested
 pub mod ParsingSays
 pub mod Reading
 pub mod Settling
+pub mod PairingSaid
