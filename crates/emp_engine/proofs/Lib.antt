@@ -19,3 +19,4 @@ pub mod ParsingSays
 pub mod Reading
 pub mod Settling
 pub mod PairingSaid
+pub mod LineRoom
