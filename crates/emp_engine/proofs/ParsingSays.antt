@@ -93,7 +93,7 @@ body_said vars equations ts sums model h =
     let r = said_definitions vars equations [] ts sums d.1 (ed ∙ ap (λ z. Some (z, d.1)) parts.0) in
     subst (λ z. AllWanted (written_definitions vars equations z ++ tail_written model) ts) (sym r.is) (r.says (subst (AllSums vars) r.is all) (tail_written model) tail)))
 
-info_said : (o : Outline) (info : List Token) (ps : List Pair) → info_of o.variables o.equations info ≡ Some ps → All (λ p. (p.equation < length o.equations) × (p.variable < length o.variables)) ps → AllWanted ((called (codes "equilibrium")) ∷ (called (codes "vi")) ∷ written_pairs o.variables o.equations ps) info
+pub info_said : (o : Outline) (info : List Token) (ps : List Pair) → info_of o.variables o.equations info ≡ Some ps → All (λ p. (p.equation < length o.equations) × (p.variable < length o.variables)) ps → AllWanted ((called (codes "equilibrium")) ∷ (called (codes "vi")) ∷ written_pairs o.variables o.equations ps) info
 info_said o info ps h =
     option_and_then_some _ (opening_then info) ps h (λ b eb hb.
     option_and_then_some _ (after_called (codes "equilibrium") info) b eb (λ a ea ha.

@@ -28,7 +28,7 @@ got_found names k ws (Word w ∷ ts) p d h = record { left = ts; is = ap (λ j. 
 got_found names k ws (Numeral m ∷ ts) p d h = absurd h.0
 got_found names k ws (Mark s ∷ ts) p d h = absurd h.0
 
-got_pairs : (o : Outline) (ps found : List Pair) (ts : List Token) → AllPairs (λ a b. lower a ≢ lower b) o.variables → AllPairs (λ a b. lower a ≢ lower b) o.equations → All (λ p. (p.equation < length o.equations) × (p.variable < length o.variables)) ps → AllWanted (written_pairs o.variables o.equations ps) ts → pairs_of o.variables o.equations found ts ≡ Some (found ++ ps)
+pub got_pairs : (o : Outline) (ps found : List Pair) (ts : List Token) → AllPairs (λ a b. lower a ≢ lower b) o.variables → AllPairs (λ a b. lower a ≢ lower b) o.equations → All (λ p. (p.equation < length o.equations) × (p.variable < length o.variables)) ps → AllWanted (written_pairs o.variables o.equations ps) ts → pairs_of o.variables o.equations found ts ≡ Some (found ++ ps)
 got_pairs o [] found [] v e d h = ap (λ x. Some x) (sym (append-nil found))
 got_pairs o [] found (t ∷ ts) v e d h = absurd h
 got_pairs o (p ∷ ps) found ts v e d h =

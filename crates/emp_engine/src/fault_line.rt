@@ -154,6 +154,7 @@ fn placed(word: &[u8], place: Place) -> Line
 }
 
 /// The line of a fault of a variable or an equation.
+#[tactic(auto, using(crate::proofs::LineRoom::rooms))]
 fn named(word: &[u8], name: &[u8]) -> Line
     requires { length word.now ≤ 20 }
     ensures { result.items ≡ model_line_of word.now name.now }
