@@ -17,6 +17,7 @@ pub mod ReportLemmas
 pub mod RowLemmas
 pub mod RunLemmas
 pub mod Settling
+pub mod Showing
 pub mod SumValue
 pub mod Telling
 pub mod ThreeItems
