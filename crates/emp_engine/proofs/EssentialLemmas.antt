@@ -1,6 +1,6 @@
 -- What is essential in a model text, lexeme by lexeme.
-use Rattle.std.proofs.Common.{◌≡◌, ℕ, ◌+◌, ◌-◌, ◌<◌, ◌≤◌, Bool, true, false, cond, not, ◌&&◌, ◌||◌, List, [], ◌∷◌, ◌++◌, length, Option, Some, None, take, drop, get_or, refl, sym, ap, subst, ◌∙◌, arith, append_assoc, append-nil}
-use Rattle.std.specs.Prelude.{◌↔◌, Result, Ok, Err, MatchResult, filter, option_map, option_and_then, slice_range}
+use Rattle.std.proofs.Common.{◌≡◌, ℕ, ◌+◌, ◌-◌, ◌<◌, ◌≤◌, Bool, true, false, cond, not, ◌&&◌, ◌||◌, List, [], ◌∷◌, ◌++◌, length, Option, Some, None, take, drop, get_or, refl, sym, ap, ◌∙◌, arith, append_assoc, append-nil}
+use Rattle.std.specs.Prelude.{◌↔◌, Result, Ok, Err, MatchResult, option_map, option_and_then, slice_range}
 use Rattle.std.proofs.lemmas.List.{drop_more, drop_all, take_more, length-drop, get_or-drop}
 use Rattle.std.proofs.Math.Seq.{take-length}
 use Rattle.emp_list.specs.Case.{same_name}

@@ -1,5 +1,5 @@
 -- Texts, their tokens and their outline.
-use Rattle.std.proofs.Common.{◌≡◌, ℕ, List, Result, Ok, Err, Option, Some, sym, subst, subst₂, ◌∙◌}
+use Rattle.std.proofs.Common.{◌≡◌, ℕ, List, Result, Ok, Err, Some, sym, subst, subst₂, ◌∙◌}
 use Rattle.std.specs.Result.{MatchResult}
 use Rattle.emp_engine.specs.declared.outline.Outline.{Outline}
 use Rattle.emp_engine.specs.declared.token.Token.{Token}
