@@ -7,6 +7,7 @@ pub mod Finishes
 pub mod Formed
 pub mod Levels
 pub mod Meanings
+pub mod OneMeaning
 pub mod OneText
 pub mod Performed
 pub mod Reading

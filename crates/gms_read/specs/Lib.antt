@@ -9,3 +9,4 @@ pub mod Shapes
 pub mod Sides
 pub mod Steps
 pub mod Texts
+pub mod Laws

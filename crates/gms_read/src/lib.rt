@@ -9,6 +9,7 @@ pub mod draft;
 pub mod fault;
 pub mod finish;
 pub mod item;
+pub mod laws;
 pub mod lexeme;
 pub mod lexemes;
 pub mod moves;
