@@ -26,4 +26,3 @@ module _ (most : ℕ) (above : 1048576 < most) (name bytes : List ℕ) (t0 t1 : 
 
   pub file_long : 1048576 < length bytes → Told (IsLongFile name) t0 t1
   file_long h = told_map (Loads name most bytes) (IsLongFile name) (λ x y l. long (x.holds name) l.bytes_are h) t0 t1 loaded
-

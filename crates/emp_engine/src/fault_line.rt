@@ -204,7 +204,10 @@ mod tests {
 
     #[test]
     fn lines_and_statuses(rt: HostRuntime) {
-        let place = Place { line: 3, column: 14 };
+        let place = Place {
+            line: 3,
+            column: 14,
+        };
         for (fault, line, status) in [
             (Fault::NotYet, "error 30: not yet\n", 30),
             (

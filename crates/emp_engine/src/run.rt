@@ -59,13 +59,7 @@ fn say<D: Desk>(desk: &mut D, text: &[u8], status: u8) -> u8
 }
 
 /// Says what the command answers over the two files.
-fn carry_out<D: Desk>(
-    alloc: Global,
-    command: Command,
-    model: &str,
-    info: &str,
-    desk: &mut D,
-) -> u8
+fn carry_out<D: Desk>(alloc: Global, command: Command, model: &str, info: &str, desk: &mut D) -> u8
     ensures { (words : List (List ℕ)) → Asks command words model.now info.now → Ends words (D.faults desk.old) (D.faults desk.new) (D.tells desk.old) (D.tells desk.new) result }
 {
     match answer_files(alloc, command, model, info, desk) {

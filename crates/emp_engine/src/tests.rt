@@ -123,6 +123,150 @@ fn worked_rows(rt: HostRuntime) -> Result<(), Fail> {
     Ok(())
 }
 
+/// The status, and whether just this was said, of a command over two texts.
+fn answers(
+    alloc: Global,
+    verb: &str,
+    model: &[u8],
+    info: &[u8],
+    said: &str,
+) -> Result<(u8, bool), Fail> {
+    let words = texts(alloc, &[verb, "m", "i"])?;
+    let mut desk = MemoryDesk::new(alloc);
+    desk.put("m", model)?;
+    desk.put("i", info)?;
+    let status = run(alloc, words.as_slice(), &mut desk);
+    Ok((status, desk.output() == said.as_bytes()))
+}
+
+/// A model of the first form but for comments, dollar lines, texts, ignored settings and empty statements, and changes
+/// that it does not have.
+#[test]
+fn marked_models(rt: HostRuntime) -> Result<(), Fail> {
+    for (model, status, said) in [
+        (
+            "* a comment\n$title marked\nVariables x 'the price';;\nEquations f \"balance\";\n$ontext\n x.up = 1;\n$offtext\nx.l = 7; f.m = -1;\nf.. 2*x - 4 =n= 0;\nModel m 'all of it' / all /;\nm.optfile = 1; ;\nSolve m using EMP; ;\n",
+            0,
+            "equilibrium\nwork 2\nx = 2\n",
+        ),
+        (
+            "Variables x; Equations f; x.lo = -inf; f.. 2*x - 4 =n= 0; Model m / all /; Solve m using EMP;",
+            30,
+            "error 30: not yet\n",
+        ),
+        (
+            "Free variables x; Equations f; f.. 2*x - 4 =n= 0; Model m / all /; Solve m using EMP;",
+            30,
+            "error 30: not yet\n",
+        ),
+        (
+            "Variables x; Equations f; f.. 2.0*x - 4 =n= 0; Model m / all /; Solve m using EMP;",
+            30,
+            "error 30: not yet\n",
+        ),
+        (
+            "Variables x; Equations f; f.. (2*x) - 4 =n= 0; Model m / all /; Solve m using EMP;",
+            30,
+            "error 30: not yet\n",
+        ),
+    ] {
+        let found = answers(
+            rt.alloc(),
+            "solve",
+            model.as_bytes(),
+            b"equilibrium vi f x",
+            said,
+        )?;
+        assert_eq!(rt; found, (status, true), "{model}");
+    }
+    Ok(())
+}
+
+/// What `print` says: the canonical texts of the model and of the annotation.
+#[test]
+fn prints(rt: HostRuntime) -> Result<(), Fail> {
+    for (model, info, status, said) in [
+        (
+            SYSTEM,
+            "EQUILIBRIUM\n vi F X  g Y",
+            0,
+            "Variables x, y;\nEquations f, g;\nf.. 2*x + y - 5 =n= 0;\ng.. x - y - 1 =n= 0;\nModel m / all /;\nSolve m using EMP;\nequilibrium\nvi f x g y\n",
+        ),
+        (
+            "Positive Variable q; Equation e 'cost'; e.. sqr(q - .5) =G= 1e-1; q.up = 4; Model m / all /; Solve M using EMP;",
+            "equilibrium vi e q",
+            0,
+            "Variables q;\nEquations e;\ne.. power(q - 0.5,2) =g= 0.1;\nq.lo = 0;\nq.up = 4;\nModel m / all /;\nSolve m using EMP;\nequilibrium\nvi e q\n",
+        ),
+        (SYSTEM, "equilibrium vi f x", 30, "error 30: not yet\n"),
+        (SYSTEM, "equilibrium vi f x f y", 30, "error 30: not yet\n"),
+        (SYSTEM, "", 30, "error 30: not yet\n"),
+    ] {
+        let found = answers(rt.alloc(), "print", model.as_bytes(), info.as_bytes(), said)?;
+        assert_eq!(rt; found, (status, true), "{model}");
+    }
+    Ok(())
+}
+
+/// The lines of model texts that stand for no model, for both commands.
+#[test]
+fn model_faults(rt: HostRuntime) -> Result<(), Fail> {
+    for (model, said) in [
+        ("", "error 14: model 1:1 syntax\n"),
+        (
+            "Variables a, b, x, y;\nEquations da, db;\nda.. a =e= sqr(x - y);\ndb.. b =e= sqr(y - x - 1);\nModel m / all /;\n",
+            "error 14: model 6:1 syntax\n",
+        ),
+        ("\n ?", "error 14: model 2:2 bad byte\n"),
+        ("x 1e99", "error 14: model 1:3 number\n"),
+        (
+            "Integer variable x; Solve m using EMP;",
+            "error 14: model 1:1 discrete\n",
+        ),
+        (
+            "Equations long_name_of_an_equation; Model m / all /; Solve m using EMP;",
+            "error 14: model undefined long_name_of_an_equation\n",
+        ),
+        (
+            "Positive variable x; x.up = -1; Model m / all /; Solve m using EMP;",
+            "error 14: model bounds cross x\n",
+        ),
+    ] {
+        for verb in ["solve", "print"] {
+            let found = answers(rt.alloc(), verb, model.as_bytes(), b"", said)?;
+            assert_eq!(rt; found, (14, true), "{model}");
+        }
+    }
+    Ok(())
+}
+
+/// A text with spaces behind it, up to the size.
+fn padded(alloc: Global, text: &str, size: usize) -> Result<Vec<u8>, AllocError> {
+    let mut padded = Vec::from_slice(alloc, text.as_bytes())?;
+    while padded.len() < size {
+        padded.push(b' ')?;
+    }
+    Ok(padded)
+}
+
+/// A file of the most bytes is read, and one of a byte more is refused.
+#[test]
+fn long_files(rt: HostRuntime) -> Result<(), Fail> {
+    let solved = "equilibrium\nwork 2\nx = 2\n";
+    let most = padded(rt.alloc(), SINGLE, 1048576)?;
+    let more = padded(rt.alloc(), SINGLE, 1048577)?;
+    let pair = b"equilibrium vi f x";
+    let found = answers(rt.alloc(), "solve", most.as_slice(), pair, solved)?;
+    assert_eq!(rt; found, (0, true));
+    let line = "error 13: file 1 is longer than 1048576 bytes\n";
+    let found = answers(rt.alloc(), "solve", more.as_slice(), more.as_slice(), line)?;
+    assert_eq!(rt; found, (13, true));
+    let line = "error 13: file 2 is longer than 1048576 bytes\n";
+    let found = answers(rt.alloc(), "print", b"", more.as_slice(), line)?;
+    assert_eq!(rt; found, (13, true));
+    Ok(())
+}
+
 /// The pairs of files in `examples/`, with the reports that stand there.
 #[test]
 fn examples(rt: HostRuntime) -> Result<(), Fail> {

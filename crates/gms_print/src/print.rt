@@ -109,6 +109,14 @@ mod tests {
                 "Variable x; Equation e; e.. x*x**2 =e= (x**2)**3/7; Model m / all /; Solve m using emp;",
                 "Variables x;\nEquations e;\ne.. x*x**2 =e= power(x**2,3)/7;\nModel m / all /;\nSolve m using EMP;\n",
             ),
+            (
+                "Variables x, y; Equation e; e.. sqr(x + y)**2 - sqr(sqr(x)) =e= -(-y); Model m / all /; Solve m using emp maximizing y;",
+                "Variables x, y;\nEquations e;\ne.. power(x + y,2)**2 - power(x**2,2) =e= -(-y);\nModel m / all /;\nSolve m using EMP maximizing y;\n",
+            ),
+            (
+                "Model m / all /; Solve m using emp;",
+                "Model m / all /;\nSolve m using EMP;\n",
+            ),
         ] {
             let printed = reprinted(rt.alloc(), text.as_bytes())?;
             assert!(rt; printed.as_slice() == expected.as_bytes(), "{expected}");

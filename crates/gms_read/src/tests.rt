@@ -352,3 +352,60 @@ fn counts_variables(rt: HostRuntime) -> Result<(), Fail> {
     assert!(rt; line.as_str().starts_with("too large 1:"));
     Ok(())
 }
+
+// A flat file as a converter writes it.
+const FLAT: &str = "*  EMP written by GAMS Convert
+*
+*  Equation counts
+*      Total        E        G        L        N
+*          2        2        0        0        0
+
+Variables  x1,x2,x3,x4;
+
+Positive Variables  x1,x2;
+
+Equations  e1,e2;
+
+e1..  (10 - x1 - x2)*x1 - 2*x1 - x3 =E= 0;
+
+e2..  (10 - x1 - x2)*x2 - 2*x2 - x4 =E= 0;
+
+* set non-default bounds
+x2.up = 2;
+
+Model m / all /;
+
+m.limrow=0; m.limcol=0;
+
+$if NOT '%gams.u1%' == '' $include '%gams.u1%'
+
+Solve m using EMP;
+";
+
+// The flat file with CR LF at the ends of its lines, and in capitals.
+fn capitals(alloc: Global) -> Result<Vec<u8>, Fail> {
+    let mut text = Vec::new(alloc);
+    for byte in FLAT.as_bytes() {
+        if *byte == b'\n' {
+            text.push(b'\r')?;
+        }
+        text.push(byte.to_ascii_uppercase())?;
+    }
+    Ok(text)
+}
+
+#[test]
+fn reads_a_flat_file(rt: HostRuntime) -> Result<(), Fail> {
+    let line = shown(rt.alloc(), FLAT.as_bytes())?;
+    assert_eq!(rt;
+        line.as_str(),
+        "m; x1 0/1 -; x2 0/1 2/1; x3 - -; x4 - -; e1 10/1 v0 0-1 v1 2-3 v0 4*5 2/1 v0 7*8 6-9 v2 10-11 =e= 0/1; e2 10/1 v0 0-1 v1 2-3 v1 4*5 2/1 v1 7*8 6-9 v3 10-11 =e= 0/1"
+    );
+    let text = capitals(rt.alloc())?;
+    let line = shown(rt.alloc(), text.as_slice())?;
+    assert!(rt;
+        line.as_str()
+            .starts_with("M; X1 0/1 -; X2 0/1 2/1; X3 - -; X4 - -; E1 10/1 v0 0-1")
+    );
+    Ok(())
+}

@@ -14,10 +14,11 @@ returns-then-count-eq0 c =
     let m = c.args.model.now in
     let text = c.args.text.now in
     let names : c.in_ok-names.names.items ≡ paired_names m = c.in_ok-names.ensures in
-    λ _. elim c.then-count-eq0.branch
-    [ then-count-eq0-via-then-count-eq0 w ↦ none_of_zero m text (sym c.len-count.ensures ∙ w.if-count-eq0.true)
-    | then-count-eq0-via-else-count-eq0+then-len-count w ↦ none_of_counts m text (λ e. w.if-len-count.true (w.len.ensures ∙ e ∙ sym c.len-count.ensures))
-    | then-count-eq0-via-else-count-eq0+else-len-count+then-not-are_names w ↦ none_of_names m text (sym (ap names_fit (w.as_slice.ensures.value ∙ names)) ∙ sym w.are_names.ensures ∙ w.if-not-are_names.true) ]
+    λ _. elim c.then-count-eq0.branch [
+      | then-count-eq0-via-then-count-eq0 w ↦ none_of_zero m text (sym c.len-count.ensures ∙ w.if-count-eq0.true)
+      | then-count-eq0-via-else-count-eq0+then-len-count w ↦ none_of_counts m text (λ e. w.if-len-count.true (w.len.ensures ∙ e ∙ sym c.len-count.ensures))
+      | then-count-eq0-via-else-count-eq0+else-len-count+then-not-are_names w ↦ none_of_names m text (sym (ap names_fit (w.as_slice.ensures.value ∙ names)) ∙ sym w.are_names.ensures ∙ w.if-not-are_names.true)
+    ]
 
 pub returns-in_err-pairs : goal.returns-in_err-pairs
 returns-in_err-pairs c =
