@@ -1,17 +1,10 @@
 -- Texts that are loaded with one byte more than the longest has.
-use Rattle.std.proofs.Common.{◌≡◌, ℕ, ◌<◌, ◌≤◌, ◌⊎◌, inl, inr, List, take, length, Option, Result, Ok, Err, arith, refl, sym, ap, subst, subst₂, ◌∙◌}
-use Rattle.std.specs.Result.{MatchResult, IfOk, IfErr}
+use Rattle.std.proofs.Common.{◌≡◌, ℕ, ◌<◌, ◌≤◌, List, take, length, Option, arith, sym, ap, ◌∙◌}
 use Rattle.std.proofs.lemmas.List.{take_all, length-take}
-use Rattle.emp_desk.specs.Desk.{Place, loads, Contents, Told, KeepsAll, Loads, Rose, NoneFalls}
-use Rattle.emp_engine.specs.declared.words.Command.{Command}
-use Rattle.emp_engine.specs.declared.fault_line.Input.{Input}
-use Rattle.emp_engine.specs.declared.fault_line.Input.TheVariants.{Model, Annotation}
-use Rattle.emp_engine.specs.declared.fault_line.Fault.{Fault}
-use Rattle.emp_engine.specs.declared.fault_line.Fault.TheVariants.{NotYet, Unread, TooLong, BadModel, NoMemory, Wide}
-use Rattle.emp_engine.specs.declared.decide.Answer.{Answer}
+use Rattle.emp_desk.specs.Desk.{Contents, Told, Loads}
 use Rattle.emp_engine.specs.Run.{IsLong}
-use Rattle.emp_engine.specs.Steps.{IsAnswer, IsFaultOf, IsFile, IsLongFile, IsUnloaded, AreShort, AnswersFiles, FaultsFiles, IsLongSecond, IsCause}
-use Rattle.emp_engine.proofs.Telling.{told_join, told_both, told_map, rose_first, rose_second}
+use Rattle.emp_engine.specs.Steps.{IsFile, IsLongFile}
+use Rattle.emp_engine.proofs.Telling.{told_map}
 
 -- ---- one file
 module _ (most : ℕ) (above : 1048576 < most) (name bytes : List ℕ) (t0 t1 : Option Contents) (loaded : Told (Loads name most bytes) t0 t1) where

@@ -1,5 +1,5 @@
 -- The pairs that a text says for a model, and the text that is written for pairs.
-use Rattle.std.proofs.Common.{◌≡◌, ◌≢◌, ℕ, zero, suc, ◌+◌, ◌-◌, ◌<◌, ◌≤◌, true, false, Option, Some, None, List, [], ◌∷◌, ◌++◌, map, length, take, drop, get_or, refl, ap, sym, subst, ◌∙◌, arith, append_assoc, add-one}
+use Rattle.std.proofs.Common.{◌≡◌, ◌≢◌, ℕ, zero, suc, ◌+◌, ◌-◌, ◌<◌, ◌≤◌, true, false, Option, Some, None, List, [], ◌∷◌, ◌++◌, map, length, take, drop, get_or, ap, sym, subst, ◌∙◌, arith, append_assoc, add-one}
 use Rattle.std.specs.Prelude.{All, AllPairs, codes}
 use Rattle.std.specs.Option.{option_and_then}
 use Rattle.std.proofs.lemmas.List.{append-nil, length-map, take_at, drop_at, take_rest, take_all, get_or-map}
@@ -8,7 +8,7 @@ use Rattle.emp_ast.specs.Names.{variable_names, equation_names}
 use Rattle.emp_engine.specs.declared.outline.Outline.{Outline}
 use Rattle.emp_engine.specs.declared.outline.Pair.{Pair}
 use Rattle.emp_engine.specs.declared.token.Token.{Token}
-use Rattle.emp_engine.specs.Form.{lower, called, AllWanted, written_pairs, written_pairing, Says}
+use Rattle.emp_engine.specs.Form.{lower, called, AllWanted, written_pairs, written_pairing}
 use Rattle.emp_engine.specs.FirstForm.{IsPairing, paired_names}
 use Rattle.emp_engine.specs.TokenList.{IsTokenList}
 use Rattle.emp_engine.specs.Parsing.{after_called, pairs_of, opening_then, info_of, outline_from}

@@ -1,5 +1,5 @@
 -- How a call ends, from how its steps end.
-use Rattle.std.proofs.Common.{◌≡◌, ◌≢◌, ℕ, true, false, ◌∷◌, codes, bytes_eq, ◌⊎◌, inl, inr, List, [], ◌++◌, Option, Some, None, arith, refl, sym, ap, subst, subst₂, ◌∙◌, le_refl}
+use Rattle.std.proofs.Common.{◌≡◌, ◌≢◌, ℕ, true, codes, bytes_eq, ◌⊎◌, inl, inr, List, [], ◌++◌, Option, Some, None, arith, refl, sym, ap, subst, subst₂, ◌∙◌, le_refl}
 use Rattle.std.proofs.lemmas.Bool.{false≢true}
 use Rattle.std.proofs.lemmas.List.{append-nil}
 use Rattle.emp_desk.specs.Desk.{Place, loads, output, Contents, Told, KeepsAll, KeepsFiles, Says, SaysPrefix, Rose, NoneFalls}

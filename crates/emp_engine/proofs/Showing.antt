@@ -1,5 +1,5 @@
 -- From the readers and the printer to the answer over two texts.
-use Rattle.std.proofs.Common.{◌≡◌, ◌≢◌, ℕ, inl, ◌++◌, List, Result, Ok, Err, refl, sym, ap, subst, ◌∙◌, true, false}
+use Rattle.std.proofs.Common.{◌≡◌, ℕ, inl, ◌++◌, List, Result, Ok, Err, sym, ap, subst, ◌∙◌}
 use Rattle.std.specs.Result.{MatchResult}
 use Rattle.emp_ast.specs.declared.model.Model.{Model}
 use Rattle.gms_read.specs.declared.fault.ModelFault.{ModelFault}
@@ -14,7 +14,7 @@ use Rattle.emp_engine.specs.declared.fault_line.Fault.TheVariants.{NotYet, Unrea
 use Rattle.emp_engine.specs.declared.decide.Answer.{Answer}
 use Rattle.emp_engine.specs.FirstForm.{IsPairing}
 use Rattle.emp_engine.specs.FaultLine.{model_fault}
-use Rattle.emp_engine.specs.Run.{pairing_text, Shows, other_pairing, canonical, Answers, refused, solved_texts, shown_texts}
+use Rattle.emp_engine.specs.Run.{pairing_text, Shows, other_pairing, canonical, refused, solved_texts, shown_texts}
 use Rattle.emp_engine.specs.Steps.{IsAnswer, IsDecided, IsUndecided, IsShown, IsUnshown, IsFaultOf}
 
 -- both canonical texts

@@ -1,5 +1,5 @@
 -- The bytes of reports and fault lines. Each line ends with LF.
-use Rattle.std.specs.Prelude.{ℕ, zero, suc, ℤ, pos, Bool, true, false, cond, List, [], ◌∷◌, ◌++◌, take, codes, decimal}
+use Rattle.std.specs.Prelude.{ℕ, ℤ, List, [], ◌∷◌, ◌++◌, take, codes, decimal}
 use Rattle.std.specs.Fmt.{signed_decimal}
 use Rattle.emp_num.specs.FracText.{fraction_text}
 use Rattle.emp_num.specs.declared.frac.Frac.{Frac}

@@ -1,5 +1,5 @@
 -- The opposite of a fraction.
-use Rattle.std.specs.Prelude.{◌≡◌, ℕ, zero, suc, ◌<◌, ◌^◌, ℤ, pos, negsuc, neg_ℤ, unsigned_abs, refl}
+use Rattle.std.specs.Prelude.{◌≡◌, zero, suc, ◌<◌, ◌^◌, ℤ, pos, negsuc, neg_ℤ, unsigned_abs, refl}
 use Prim.Native.Nat.{◌∣◌}
 use Rattle.std.proofs.Common.{subst, sym}
 use Rattle.emp_num.specs.Exact.{IsNarrow, IsCoprime}

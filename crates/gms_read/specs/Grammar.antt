@@ -1,5 +1,5 @@
 -- The grammar of models: which lexemes stand for which statements. Sums and products group to the left.
-use Rattle.std.specs.Prelude.{◌≡◌, ℕ, List, [], ◌∷◌, ◌++◌, Option, Some, None}
+use Rattle.std.specs.Prelude.{◌≡◌, List, [], ◌∷◌, ◌++◌, Option, Some, None}
 use Rattle.emp_num.specs.declared.frac.Frac.{Frac}
 use Rattle.emp_ast.specs.declared.tree.Operator.{Operator}
 use Rattle.emp_ast.specs.declared.tree.Operator.TheVariants.{Plus as AddOperator, Minus as SubOperator, Times as MulOperator, Over as DivOperator}

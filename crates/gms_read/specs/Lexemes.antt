@@ -1,5 +1,5 @@
 -- What the tokens of a text are to the grammar. Keywords are no names; letters are compared without case.
-use Rattle.std.specs.Prelude.{◌≡◌, ℕ, Bool, true, false, cond, ◌||◌, nat_eq, List, [], ◌∷◌, map, codes, bytes_eq, Option, Some, None, Ok, slice_range, slice_index}
+use Rattle.std.specs.Prelude.{◌≡◌, ℕ, cond, List, [], ◌∷◌, codes, bytes_eq, Ok, slice_range}
 use Rattle.emp_num.specs.declared.frac.Frac.{Frac}
 use Rattle.emp_num.specs.Numeral.{NumeralGives}
 use Rattle.emp_list.specs.Case.{lower}

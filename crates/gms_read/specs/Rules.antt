@@ -1,13 +1,12 @@
 -- What statements do, one by one in text order: they declare, define and set, or they break a rule. The first rule that is
 -- broken is the fault, at the place of its name or operator.
-use Rattle.std.specs.Prelude.{◌≡◌, ℕ, zero, suc, ◌+◌, ◌-◌, ℤ, pos, negsuc, Bool, true, false, cond, not, ◌&&◌, ◌||◌, nat_eq, nat_lt, nat_le, int_lt, List, [], ◌∷◌, ◌++◌, length, slice_set, slice_index_or, bytes_eq, Option, Some, None, Result, Ok, Err, ◌*ℤ◌}
+use Rattle.std.specs.Prelude.{ℕ, zero, suc, ◌+◌, ℤ, pos, Bool, true, false, cond, not, ◌&&◌, nat_lt, nat_le, int_lt, List, [], ◌∷◌, ◌++◌, length, slice_set, slice_index_or, bytes_eq, Option, Some, None, Result, Ok, Err, ◌*ℤ◌}
 use Rattle.emp_num.specs.declared.frac.Frac.{Frac}
 use Rattle.emp_num.specs.Whole.{whole}
 use Rattle.emp_list.specs.Case.{lower}
 use Rattle.emp_ast.specs.declared.tree.Place.{Place}
 use Rattle.emp_ast.specs.declared.tree.Tree.{Tree}
 use Rattle.emp_ast.specs.declared.tree.VarId.{VarId}
-use Rattle.emp_ast.specs.declared.tree.Operator.{Operator}
 use Rattle.emp_ast.specs.declared.model.Relation.{Relation}
 use Rattle.emp_ast.specs.declared.model.Relation.TheVariants.{Nothing}
 use Rattle.emp_ast.specs.declared.model.Equation.{Equation}
@@ -17,7 +16,6 @@ use Rattle.emp_ast.specs.declared.model.End.TheVariants.{Open as OpenEnd, At as 
 use Rattle.emp_ast.specs.declared.model.Sense.{Sense}
 use Rattle.emp_ast.specs.declared.model.Model.{Model}
 use Rattle.emp_ast.specs.Expression.{Expression, number, variable, negated, joined as joined_with, power, nodes_from}
-use Rattle.gms_read.specs.declared.lexeme.Word.{Word}
 use Rattle.gms_read.specs.declared.lexeme.Word.TheVariants.{Square, Power as PowerWord, Low, High, Fixed, Level, Marginal}
 use Rattle.gms_read.specs.declared.lexeme.Domain.{Domain}
 use Rattle.gms_read.specs.declared.lexeme.Domain.TheVariants.{Free, Positive, Negative, Discrete as DiscreteWord}

@@ -1,5 +1,5 @@
 -- Which model a text stands for, and the first fault of a text that stands for none.
-use Rattle.std.specs.Prelude.{◌≡◌, ◌⊎◌, ℕ, List, Option, Some, None, Result, Ok, Err}
+use Rattle.std.specs.Prelude.{◌≡◌, ◌⊎◌, ℕ, List, Some, None, Result, Ok, Err}
 use Rattle.emp_ast.specs.declared.tree.Place.{Place}
 use Rattle.emp_ast.specs.declared.model.Model.{Model}
 use Rattle.emp_lex.specs.declared.token.Token.{Token}

@@ -1,7 +1,6 @@
 use Rattle.std.proofs.Common.{refl, subst, sym}
 use Rattle.std.specs.Result.{MatchResult}
 use Rattle.std.proofs.lemmas.Result.{err_from_is_err_and}
-use Rattle.emp_engine.specs.declared.words.Command.TheVariants.{Solve, Print}
 use Rattle.emp_engine.specs.Steps.{IsAnswer, IsFaultOf}
 use Rattle.emp_engine.proofs.Showing.{refused_fault, solve_answers, print_fault, print_answers}
 use Rattle.emp_engine.proofs.decide.answer_texts.Goals as goal

@@ -1,4 +1,4 @@
-use Rattle.std.proofs.Common.{◌≡◌, ◌<◌, length, get_or, ◌∙◌, rules}
+use Rattle.std.proofs.Common.{◌<◌, length, get_or, ◌∙◌, rules}
 use Rattle.emp_engine.specs.declared.outline.Pair.{Pair}
 use Rattle.emp_engine.proofs.PairingSaid.{name_read, one_pair, more_pairs, all_pairs}
 use Rattle.emp_engine.proofs.pairing.write_pairing.Goals as goal
