@@ -243,7 +243,7 @@ fn model_faults(rt: HostRuntime) -> Result<(), Fail> {
 /// A text with spaces behind it, up to the size.
 fn padded(alloc: Global, text: &str, size: usize) -> Result<Vec<u8>, AllocError> {
     let mut padded = Vec::from_slice(alloc, text.as_bytes())?;
-    while padded.len() < size {
+    for _ in text.len()..size {
         padded.push(b' ')?;
     }
     Ok(padded)
