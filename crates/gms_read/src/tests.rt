@@ -156,6 +156,13 @@ fn reads_expressions(rt: HostRuntime) -> Result<(), Fail> {
 }
 
 #[test]
+fn a_power_binds_tighter_than_a_sign(rt: HostRuntime) -> Result<(), Fail> {
+    let line = defined(rt.alloc(), "-x**2 =n= 0")?;
+    assert_eq!(rt; line.as_str(), "m; x - -; y - -; f v0 0^2 neg1 =n= 0/1");
+    Ok(())
+}
+
+#[test]
 fn refuses_expressions(rt: HostRuntime) -> Result<(), Fail> {
     let cases = [
         ("power(x,+2) =e= 0", "function 1:34"),
