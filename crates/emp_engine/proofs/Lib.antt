@@ -1,6 +1,7 @@
 pub mod EssentialLemmas
 pub mod FirstLaw
 pub mod Lexing
+pub mod LeavingOut
 pub mod LineRoom
 pub mod Loading
 pub mod PairingSaid
