@@ -1,6 +1,10 @@
 pub mod EssentialLemmas
 pub mod FirstLaw
 pub mod Lexing
+pub mod FormLexemes
+pub mod FormRead
+pub mod FormStatements
+pub mod FormSums
 pub mod LeavingOut
 pub mod LineRoom
 pub mod Loading
