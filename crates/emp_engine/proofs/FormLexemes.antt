@@ -1,6 +1,6 @@
 -- The lexemes of a model text of the first form: what each is that was wanted.
-use Rattle.std.proofs.Common.{◌≡◌, ◌≢◌, ℕ, suc, ◌+◌, ◌-◌, ◌*◌, ◌^◌, ◌<◌, ◌≤◌, ℤ, pos, ◌*ℤ◌, ◌-ℤ◌, ◌<ℤ◌, Bool, true, false, cond, not, ◌&&◌, List, [], ◌∷◌, ◌++◌, length, Option, Some, None, Result, Ok, Err, refl, sym, ap, subst, ◌∙◌, arith}
-use Rattle.std.specs.Prelude.{bytes_eq, nat_le, nat_lt, codes, option_map, option_and_then, slice_range}
+use Rattle.std.proofs.Common.{◌≡◌, ℕ, ◌+◌, ◌-◌, ◌*◌, ◌^◌, ◌<◌, ◌≤◌, pos, ◌*ℤ◌, ◌-ℤ◌, ◌<ℤ◌, Bool, true, false, cond, not, ◌&&◌, List, [], ◌∷◌, ◌++◌, length, Option, Some, None, Ok, refl, sym, ap, subst, ◌∙◌, arith}
+use Rattle.std.specs.Prelude.{nat_le, option_map, option_and_then}
 use Rattle.std.specs.List.{AllByRecursion as Each}
 use Rattle.std.proofs.lemmas.Bool.{and_parts, false≢true, leb-true, ltb-true}
 use Rattle.std.proofs.lemmas.Bool.Decides.{nat_tests}
@@ -8,13 +8,12 @@ use Rattle.std.proofs.lemmas.Int.{ints}
 use Rattle.emp_num.specs.declared.frac.Frac.{Frac}
 use Rattle.emp_num.specs.FracSpec.{IsQuotient}
 use Rattle.emp_num.specs.Whole.{whole}
-use Rattle.emp_num.specs.Numeral.{digit, value_from as value_of_digits, numeral_form, whole_of, fraction_of, tail_of, exponent_negative, exponent_digits, mantissa, scale, FormGives, DecimalGives, NumeralGives}
-use Rattle.emp_num.specs.NumeralText.{AllDigits, no_point, no_exponent, IsNumeral as IsNumeralText, AreParts}
+use Rattle.emp_num.specs.Numeral.{digit, value_from as value_of_digits, whole_of, fraction_of, tail_of, exponent_negative, exponent_digits, mantissa, scale, FormGives, DecimalGives, NumeralGives}
+use Rattle.emp_num.specs.NumeralText.{AllDigits, no_point, no_exponent, IsNumeral as IsNumeralText}
 use Rattle.emp_num.proofs.NumeralTexts.{has_form}
 use Rattle.emp_num.proofs.FracOrder.{one_value}
 use Rattle.std.proofs.Common.{append-nil}
 use Rattle.emp_list.specs.Case.{lower}
-use Rattle.emp_ast.specs.declared.model.Relation.{Relation}
 use Rattle.emp_ast.specs.declared.model.Relation.TheVariants.{Equal, AtLeast, AtMost, Nothing}
 use Rattle.emp_lex.specs.declared.token.Token.{Token as LexToken}
 use Rattle.emp_lex.specs.declared.token.TokenKind.{TokenKind}
@@ -25,7 +24,7 @@ use Rattle.gms_read.specs.declared.lexeme.Scale.TheVariants.{Times as TimesScale
 use Rattle.gms_read.specs.declared.lexeme.Sort.{Sort}
 use Rattle.gms_read.specs.declared.lexeme.Sort.TheVariants.{Name, Numeral as NumeralSort, Text, Relation as Related, Domain, Variables, Equations, Model, Solve, Sign as Signed, Scale as Scaled, Raise, Equals, Semicolon as SemicolonSort, Comma as CommaSort, Dot, Dots as DotsSort, Open, Close}
 use Rattle.gms_read.specs.declared.lexeme.Lexeme.{Lexeme}
-use Rattle.gms_read.specs.Lexemes.{of_words, words, keywords, word_sort, symbol_sort, IsSort, spelling, AreLexemes}
+use Rattle.gms_read.specs.Lexemes.{of_words, words, keywords, word_sort, IsSort, spelling, AreLexemes}
 use Rattle.gms_read.specs.Texts.{HasLexemes}
 use Rattle.gms_print.proofs.GoodTexts.{of_words_fails, symbols, numeral_gives, each_append}
 use Rattle.emp_engine.specs.declared.token.Token.{Token}
@@ -34,7 +33,7 @@ use Rattle.emp_engine.specs.declared.token.Sign.{Sign}
 use Rattle.emp_engine.specs.declared.token.Sign.TheVariants.{Semicolon, Comma, Slash, Dots, Plus, Minus, Times, NoRelation}
 use Rattle.emp_engine.specs.Form.{is_digit, lower as lower_of_form, Wanted, spelled, called, number, symbol, IsWanted, AllWanted}
 use Rattle.emp_engine.specs.Cutting.{value_from}
-use Rattle.emp_engine.specs.Essential.{is_text, is_semicolon, without_texts, is_idle, unless_idle, essential_from, model_name, essential, numeral_token, signed, sign_of, token_by, token_of, tokens_of}
+use Rattle.emp_engine.specs.Essential.{is_text, is_semicolon, without_texts, is_idle, unless_idle, essential_from, model_name, essential, token_by, token_of, tokens_of}
 use Rattle.emp_engine.proofs.SumValue.{whole-num, whole-den}
 use Rattle.emp_engine.proofs.ParsingNames.{lower_is}
 

@@ -1,5 +1,5 @@
 -- The statements of a model text of the first form are those of the outline's model.
-use Rattle.std.proofs.Common.{◌≡◌, ◌≢◌, ℕ, ◌+◌, ◌<◌, ◌≤◌, Bool, true, false, cond, List, [], ◌∷◌, ◌++◌, map, length, All, AllPairs, Option, Some, None, refl, sym, ap, subst, ◌∙◌, arith, append_assoc, append-nil}
+use Rattle.std.proofs.Common.{◌≡◌, ◌≢◌, ℕ, ◌<◌, cond, List, [], ◌∷◌, ◌++◌, map, length, All, AllPairs, None, refl, sym, ap, subst, ◌∙◌, arith, append_assoc, append-nil}
 use Rattle.std.specs.Prelude.{bytes_eq, codes}
 use Rattle.std.specs.List.{AllByRecursion as Each}
 use Rattle.std.proofs.lemmas.Slice.Eq.{bytes_eq-Decides}
@@ -9,8 +9,6 @@ use Rattle.emp_num.specs.Whole.{whole}
 use Rattle.emp_list.specs.Case.{lower}
 use Rattle.emp_ast.specs.declared.model.Relation.TheVariants.{Nothing}
 use Rattle.emp_ast.specs.declared.model.Equation.{Equation}
-use Rattle.emp_ast.specs.declared.model.Variable.{Variable}
-use Rattle.emp_ast.specs.declared.model.Model.{Model}
 use Rattle.emp_ast.specs.Names.{variable_names, equation_names}
 use Rattle.emp_ast.specs.Expression.{nodes_from}
 use Rattle.gms_read.specs.declared.lexeme.Word.{Word as NameWord}
@@ -25,14 +23,14 @@ use Rattle.gms_print.proofs.GoodTexts.{each_parts}
 use Rattle.gms_print.proofs.Effects.{AreDefinitions, Defines, AreBounds, no_bounds, some_bounds, sets_none, AreStatements, some_variables, some_equations, Fitting}
 use Rattle.emp_engine.specs.declared.outline.Outline.{Outline}
 use Rattle.emp_engine.specs.declared.outline.Term.{Term}
-use Rattle.emp_engine.specs.declared.token.Sign.TheVariants.{Semicolon, Slash, Dots, NoRelation}
-use Rattle.emp_engine.specs.Form.{Wanted, spelled, called, number, symbol, keywords, lower as lower_of_form, name_at, written_more_names, written_names, written_sum, written_definitions, written_model, names_of, sum_variables, IsSum, IsSound}
-use Rattle.emp_engine.specs.Meaning.{free_variable, sum_nodes, equation_of, equations_of, model_of}
+use Rattle.emp_engine.specs.declared.token.Sign.TheVariants.{Semicolon, Dots, NoRelation}
+use Rattle.emp_engine.specs.Form.{Wanted, called, number, symbol, keywords, lower as lower_of_form, name_at, written_more_names, written_names, written_sum, written_definitions, written_model, names_of, sum_variables, IsSum, IsSound}
+use Rattle.emp_engine.specs.Meaning.{free_variable, equation_of, equations_of, model_of}
 use Rattle.emp_engine.proofs.ParsingNames.{lower_is, not_true}
 use Rattle.emp_engine.proofs.ParsingWhole.{tail_written}
 use Rattle.emp_engine.proofs.WalkGives.{names_kept}
 use Rattle.emp_engine.proofs.FormLexemes.{Fits, AllFit}
-use Rattle.emp_engine.proofs.FormSums.{Parted, parted, sum_expression, sum_is, SumRead, sum_read}
+use Rattle.emp_engine.proofs.FormSums.{parted, sum_expression, sum_is, SumRead, sum_read}
 
 -- ---- names that are no keywords
 abbrev NoneIs : {X : Type 0} → List ℕ → List (List ℕ × X) → Type 0

@@ -1,5 +1,5 @@
 -- The sums of a model text of the first form: the lexemes stand for expressions whose nodes are those of the outline's sums.
-use Rattle.std.proofs.Common.{◌≡◌, ℕ, ◌+◌, ◌-◌, ◌<◌, ◌≤◌, Bool, true, false, List, [], ◌∷◌, ◌++◌, fold, length, Option, Some, None, refl, sym, ap, ap₂, subst, ◌∙◌, arith, append_assoc, append-nil}
+use Rattle.std.proofs.Common.{◌≡◌, ℕ, ◌+◌, ◌-◌, ◌<◌, Bool, true, false, List, [], ◌∷◌, ◌++◌, fold, length, None, refl, sym, ap, subst, ◌∙◌, arith, append_assoc, append-nil}
 use Rattle.std.specs.List.{AllByRecursion as Each}
 use Rattle.std.proofs.lemmas.List.{length-append}
 use Rattle.emp_num.specs.Whole.{whole}
@@ -7,27 +7,25 @@ use Rattle.emp_list.specs.Case.{lower}
 use Rattle.emp_ast.specs.declared.tree.Operator.{Operator}
 use Rattle.emp_ast.specs.declared.tree.Operator.TheVariants.{Plus as AddOperator, Minus as SubOperator, Times as MulOperator}
 use Rattle.emp_ast.specs.declared.tree.Node.{Node}
-use Rattle.emp_ast.specs.declared.tree.Node.TheVariants.{Number, Var, Neg, Add, Sub, Mul}
+use Rattle.emp_ast.specs.declared.tree.Node.TheVariants.{Number, Var, Neg, Mul}
 use Rattle.emp_ast.specs.Expression.{Expression, number as number_of, variable, negated, joined as joined_with, size, root, nodes_from, join_node as operator_node}
 use Rattle.gms_read.specs.declared.lexeme.Word.{Word as NameWord}
-use Rattle.gms_read.specs.declared.lexeme.Sign.{Sign as LexemeSign}
 use Rattle.gms_read.specs.declared.lexeme.Sign.TheVariants.{Plus as PlusSign, Minus as MinusSign}
 use Rattle.gms_read.specs.declared.lexeme.Scale.TheVariants.{Times as TimesScale}
-use Rattle.gms_read.specs.declared.lexeme.Sort.TheVariants.{Name, Sign as Signed}
+use Rattle.gms_read.specs.declared.lexeme.Sort.TheVariants.{Name}
 use Rattle.gms_read.specs.declared.lexeme.Lexeme.{Lexeme}
 use Rattle.gms_read.specs.declared.draft.Draft.{Draft}
-use Rattle.gms_read.specs.declared.fault.ModelFault.{ModelFault}
 use Rattle.gms_read.specs.declared.fault.ModelFault.TheVariants.{Undeclared}
 use Rattle.gms_read.specs.Lexemes.{spelling, word_sort}
 use Rattle.gms_read.specs.Grammar.{Written, numeral, name, signed, joined, Sum, Term as TermLevel, Stands, a_numeral, a_name, a_primary, a_factor, a_product, a_term, a_signed, a_sum}
-use Rattle.gms_read.specs.Rules.{or_zero, or_else, fault_where, is_none, meaning, expression_fault}
-use Rattle.gms_print.proofs.OneTree.{some_size, nodes_size}
+use Rattle.gms_read.specs.Rules.{or_zero, fault_where, is_none, meaning, expression_fault}
+use Rattle.gms_print.proofs.OneTree.{nodes_size}
+use Rattle.gms_print.proofs.ExpressionLexemes.{no_faults}
 use Rattle.gms_print.proofs.ExpressionReads.{Knows}
 use Rattle.emp_engine.specs.declared.outline.Term.{Term}
 use Rattle.emp_engine.specs.declared.outline.Product.{Product}
 use Rattle.emp_engine.specs.declared.outline.Product.TheVariants.{Constant, Plain, Multiple}
-use Rattle.emp_engine.specs.declared.token.Sign.TheVariants.{Minus, Times}
-use Rattle.emp_engine.specs.Form.{Wanted, called, number, symbol, name_at, written_product, sign_between, written_more_terms, written_lead, written_sum, product_variables, sum_variables}
+use Rattle.emp_engine.specs.Form.{Wanted, symbol, name_at, written_product, sign_between, written_more_terms, written_lead, written_sum, product_variables, sum_variables}
 use Rattle.emp_engine.specs.Meaning.{product_nodes, root_of, join_node, with_term, lead_nodes, sum_nodes}
 use Rattle.emp_engine.proofs.FormLexemes.{Fits, AllFit}
 use Rattle.gms_print.proofs.GoodTexts.{each_parts}
@@ -124,9 +122,6 @@ module _ (text : List ℕ) (vars : List (List ℕ)) (free : (v : ℕ) → v < le
     pub stands : Stands Sum ts written
     pub means : (d : Draft) → Knows vars text d → meaning text d written ≡ e
     pub faultless : (d : Draft) → Knows vars text d → expression_fault text d written ≡ None
-
-  no_faults : (a b : Option ModelFault) → a ≡ None → b ≡ None → or_else a b ≡ None
-  no_faults a b h k = ap (λ o. or_else o b) h ∙ k
 
   variable_meant : (v : ℕ) (t : Lexeme) → v < length vars → lower (spelling text t) ≡ lower (name_at vars v) → Meant (name t) (variable v)
   variable_meant v t l e = record {

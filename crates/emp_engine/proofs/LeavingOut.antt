@@ -1,5 +1,5 @@
 -- What is left out of a model text changes nothing that its statements do.
-use Rattle.std.proofs.Common.{◌≡◌, ◌⊎◌, inl, inr, ℕ, Bool, true, false, cond, not, ◌&&◌, ◌||◌, List, [], ◌∷◌, ◌++◌, length, Option, Some, None, Result, Ok, Err, refl, sym, ap, subst, ◌∙◌, append_assoc, append-nil}
+use Rattle.std.proofs.Common.{◌≡◌, ◌⊎◌, inl, inr, ℕ, Bool, true, false, cond, not, ◌&&◌, ◌||◌, List, [], ◌∷◌, ◌++◌, length, Option, Some, None, Ok, Err, refl, sym, ap, subst, ◌∙◌, append_assoc, append-nil}
 use Rattle.std.specs.Prelude.{bytes_eq, nat_lt}
 use Rattle.std.specs.List.{AllByRecursion as Each}
 use Rattle.std.proofs.lemmas.Bool.{and_parts, false≢true}
@@ -9,9 +9,6 @@ use Rattle.emp_ast.specs.declared.tree.Place.{Place}
 use Rattle.emp_ast.specs.declared.model.Sense.{Sense}
 use Rattle.gms_read.specs.declared.lexeme.Word.TheVariants.{All, Using, Emp, Minimizing, Maximizing, Infinity, Square, Power, Low, High, Fixed, Level as LevelWord, Marginal, Other}
 use Rattle.gms_read.specs.declared.lexeme.Domain.{Domain}
-use Rattle.gms_read.specs.declared.lexeme.Domain.TheVariants.{Free, Positive, Negative, Discrete}
-use Rattle.gms_read.specs.declared.lexeme.Sign.TheVariants.{Plus, Minus}
-use Rattle.gms_read.specs.declared.lexeme.Scale.TheVariants.{Times, Over}
 use Rattle.gms_read.specs.declared.lexeme.Sort.{Sort}
 use Rattle.gms_read.specs.declared.lexeme.Sort.TheVariants.{Name, Numeral, Text, Relation as Related, Domain as DomainWord, Variables, Equations, Model, Solve, Sign as Signed, Scale as Scaled, Raise, Equals, Semicolon, Comma, Dot, Dots, Open, Close}
 use Rattle.gms_read.specs.declared.lexeme.Lexeme.{Lexeme}
@@ -23,8 +20,9 @@ use Rattle.gms_read.specs.declared.fault.ModelFault.{ModelFault}
 use Rattle.gms_read.specs.declared.fault.ModelFault.TheVariants.{Undeclared, Twice, Attribute, TooLarge}
 use Rattle.gms_read.specs.Lexemes.{spelling}
 use Rattle.gms_read.specs.Grammar.{Written, Level, Stands, a_numeral, a_name, a_call, a_group, a_primary, a_power, a_factor, a_product, a_term, a_signed, a_sum, an_argument, arguments, IsEntry, bare, described, AreNames, first, next, next_behind_comma, IsUnsigned, finite, infinite, IsLimit, no_sign, with_sign, IsGoal, no_goal, least, greatest, Statement, empty, variables, equations, definition, setting, model, solve, IsStatement, is_empty, is_variables, is_domain, is_equations, is_definition, is_setting, is_model, IsSolve, is_solve, AreSemicolons, none, more, IsFile, last, then}
-use Rattle.gms_read.specs.Rules.{most, has_sign, first_low, first_high, with_variable, is_infinite, with_low, with_high, with_definition, or_zero, equation_of, definition_fault, expression_fault, Step, and_then, unless_fault, or_else, entry_of, declared_as, is_none, is_model_entry, is_model as names_model, variable_at, add_variable, add_equation, add_model, restrict, declare_new, declare_by, declare_variable, declare_equation, declare_all, discrete_fault, declare_model, define, set_variable, set_equation, set_by, with_goal, aim_at, aim, variable_of, after, after_all, nothing_yet}
-use Rattle.gms_print.proofs.GoodTexts.{each_append, each_parts}
+use Rattle.gms_read.specs.Rules.{most, has_sign, first_low, first_high, with_variable, is_infinite, with_low, with_high, with_definition, or_zero, equation_of, definition_fault, expression_fault, Step, and_then, unless_fault, or_else, entry_of, declared_as, is_none, is_model_entry, is_model as names_model, variable_at, add_variable, add_equation, add_model, declare_by, declare_variable, declare_equation, declare_all, discrete_fault, declare_model, set_variable, set_equation, set_by, with_goal, aim_at, aim, variable_of, after, after_all, nothing_yet}
+use Rattle.gms_print.proofs.Drafts.{none_is}
+use Rattle.gms_print.proofs.GoodTexts.{each_append}
 use Rattle.gms_print.proofs.Tables.{Entries, entry_behind, entry_stays, entry_here}
 use Rattle.emp_engine.specs.Essential.{is_text, is_semicolon, is_dot, is_model_word, is_start_value, without_texts, first_spelling, model_name, is_idle, unless_idle, essential_from, essential}
 
@@ -310,7 +308,7 @@ cut_at text name s (t ∷ ts) z us h e =
     ∙ ap (λ x. unless_idle (is_idle text name x) x ++ essential_from text name [] us) (append_assoc s (t ∷ []) (ts ++ z ∷ []))
 
 -- ---- the names that a statement declares
-abbrev pub has_model : Entries → Bool
+abbrev has_model : Entries → Bool
 has_model [] = false
 has_model (e ∷ es) = is_model_entry (Some e.1) || has_model es
 
@@ -586,10 +584,6 @@ stays text [] d f h key x e = (let z : ◌≡◌ {A = Step} (Ok d) (Ok f) = h in
 stays text (s ∷ ss) d f h key x e =
     let p = both (after text d s) (λ g. after_all text g ss) f h in
     stays text ss p.draft f p.then_gave key x (found_more (declares_model s) d p.draft key x (step_adds text d p.draft s p.gave) e)
-
-none_is : {X : Type 0} (o : Option X) → is_none o ≡ true → o ≡ None
-none_is None h = refl
-none_is (Some x) h = absurd (false≢true h)
 
 -- a model that is declared is found by its name
 model_declared : (text : List ℕ) (d e : Draft) (t : Lexeme) → declare_model text d t ≡ Ok e → entry_of e.names (lower (spelling text t)) ≡ Some ModelName

@@ -1,11 +1,11 @@
 pub mod EssentialLemmas
 pub mod FirstLaw
-pub mod Lexing
 pub mod FormLexemes
 pub mod FormRead
 pub mod FormStatements
 pub mod FormSums
 pub mod LeavingOut
+pub mod Lexing
 pub mod LineRoom
 pub mod Loading
 pub mod PairingSaid

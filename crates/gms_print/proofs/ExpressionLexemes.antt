@@ -125,7 +125,7 @@ same_level Minus n = refl
 same_level Times n = refl
 same_level Over n = refl
 
-no_faults : (a b : Option ModelFault) → a ≡ None → b ≡ None → or_else a b ≡ None
+pub no_faults : (a b : Option ModelFault) → a ≡ None → b ≡ None → or_else a b ≡ None
 no_faults a b h k = ap (λ x. or_else x b) h ∙ k
 
 pub joined_stands : {names : List (List ℕ)} {k l : ℕ} {e f : Expression} {text : List ℕ} {ts us : List Lexeme} (op : Operator) (t : Lexeme) → t.sort ≡ operator_sort op → StandsFor names (left_level op) k e text ts → StandsFor names (right_level op) l f text us → StandsFor names (left_level op) (max k l) (joined op e f) text (ts ++ t ∷ us)
