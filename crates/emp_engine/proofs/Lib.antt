@@ -1,5 +1,10 @@
 pub mod EssentialLemmas
 pub mod FirstLaw
+pub mod FormLexemes
+pub mod FormRead
+pub mod FormStatements
+pub mod FormSums
+pub mod LeavingOut
 pub mod Lexing
 pub mod LineRoom
 pub mod Loading

@@ -10,7 +10,7 @@ use Rattle.emp_engine.specs.Parsing.{same_name, find_name}
 lower_byte_is : (b : ℕ) → lower_byte b ≡ to_ascii_lowercase b
 lower_byte_is b = grind (arith, nat_tests)
 
-lower_is : (bs : List ℕ) → lower bs ≡ map to_ascii_lowercase bs
+pub lower_is : (bs : List ℕ) → lower bs ≡ map to_ascii_lowercase bs
 lower_is [] = refl
 lower_is (b ∷ bs) = ap (λ x. x ∷ lower bs) (lower_byte_is b) ∙ ap (λ xs. to_ascii_lowercase b ∷ xs) (lower_is bs)
 

@@ -34,7 +34,8 @@ rows_width o = λ k d l.
     let ts : List Term = get_or o.sums (get_or o.pairs k origin).equation [] in
     subst (λ (r : Affine). length r.cells ≡ length o.variables) (sym (get_or-map row o.pairs k origin d in_pairs)) (length-quotients (sum_cells (length o.variables) ts) _ ∙ length-sum_cells (length o.variables) ts)
 
-names_kept : (ns : List (List ℕ)) → map (λ (v : Variable). v.name) (map free_variable ns) ≡ ns
+-- the variables of an outline's model have its names
+pub names_kept : (ns : List (List ℕ)) → map (λ (v : Variable). v.name) (map free_variable ns) ≡ ns
 names_kept [] = refl
 names_kept (n ∷ ns) = ap (λ l. n ∷ l) (names_kept ns)
 

@@ -6,6 +6,7 @@ pub mod Form
 pub mod Meaning
 pub mod OneOutline
 pub mod Parsing
+pub mod ReadsForm
 pub mod Report
 pub mod Run
 pub mod SaysOutline

@@ -62,7 +62,7 @@ each_at P (x ∷ xs) (suc k) v h p = each_at P xs k v h.1 p
 same_map : {X Y : Type 0} (f : X → Y) (xs : List X) (k : ℕ) (v d : X) → f v ≡ f (get_or xs k d) → map f (set xs k v) ≡ map f xs
 same_map f xs k v d e = map-set f xs k v ∙ ap (set (map f xs) k) e ∙ sym (map-set f xs k (get_or xs k d)) ∙ ap (map f) (set-get_or xs k d)
 
-none_is : {X : Type 0} (o : Option X) → is_none o ≡ true → o ≡ None
+pub none_is : {X : Type 0} (o : Option X) → is_none o ≡ true → o ≡ None
 none_is None h = refl
 none_is (Some x) h = absurd (false≢true h)
 

@@ -1,5 +1,5 @@
 -- What the statements of a printed model do, from no declaration on.
-use Rattle.std.proofs.Common.{◌≡◌, ℕ, zero, suc, ◌+◌, ◌<◌, ◌≤◌, Bool, true, false, cond, List, [], ◌∷◌, ◌++◌, map, length, All, Option, Some, None, Ok, Err, slice_index_or, slice_set, refl, sym, ap, subst, ◌∙◌, arith, append_assoc}
+use Rattle.std.proofs.Common.{◌≡◌, ◌≢◌, ℕ, zero, suc, ◌+◌, ◌<◌, ◌≤◌, Bool, true, false, cond, List, [], ◌∷◌, ◌++◌, map, length, All, AllPairs, Option, Some, None, Ok, Err, slice_index_or, slice_set, refl, sym, ap, subst, ◌∙◌, arith, append_assoc}
 use Rattle.std.proofs.lemmas.Bool.{lt-ltb}
 use Rattle.std.proofs.lemmas.List.Elements.{All-head, All-tail}
 use Rattle.std.proofs.lemmas.List.{append-nil, length_push, get_or_at, set_at, length-map}
@@ -133,7 +133,7 @@ variables_found names j [] h = tt
 variables_found names j (n ∷ ns) h = (h zero (omega arith) ∙ ap (λ i. Some (VariableName i)) (omega arith), variables_found names (j + 1) ns (λ k l. h (suc k) (omega arith) ∙ ap (λ i. Some (VariableName i)) (omega arith)))
 
 pub knows : (names : List (List ℕ)) (text : List ℕ) (d : Draft) → FindsVariables d.names names → Knows names text d
-knows names text d h k l t e = ap (λ bs. variable_in (entry_of d.names (lower bs))) e ∙ ap variable_in (h k l)
+knows names text d h k l t e = ap (λ key. variable_in (entry_of d.names key)) e ∙ ap variable_in (h k l)
 
 -- ---- definitions
 -- whatever the draft that knows the names, the expression is that of the tree
@@ -146,7 +146,7 @@ pub record Defines (names : List (List ℕ)) (text : List ℕ) (e : Equation) (s
   pub left : Written
   pub right : Written
   pub is : s ≡ definition head left e.relation right
-  pub spelled : spelling text head ≡ e.name
+  pub spelled : lower (spelling text head) ≡ lower e.name
   pub left_means : Means names text left e.left
   pub right_means : Means names text right e.right
 
@@ -188,7 +188,7 @@ defined text known names vs j done flags (e ∷ es) (s ∷ ss) f p q h a =
     let d : Draft = stage names vs (done ++ empty_equation e.name ∷ more) (flags ++ false ∷ none) in
     let k : Knows known text d = knows known text d f in
     let x : Equation = record { name = e.name; left = tree_of text d def.left; right = tree_of text d def.right; relation = e.relation } in
-    let entry : declared_as text d def.head ≡ Some (EquationName j) = ap (λ bs. entry_of names (lower bs)) def.spelled ∙ h.0 in
+    let entry : declared_as text d def.head ≡ Some (EquationName j) = ap (entry_of names) def.spelled ∙ h.0 in
     let open_ : slice_index_or (flags ++ false ∷ none) j false ≡ false = get_or_at flags false none false j q in
     let step : after text d s ≡ Ok (with_definition text d j def.left e.relation def.right) = ap (after text d) def.is ∙ defines_one text d def.head j def.left def.right e.relation entry open_ (def.left_means.faultless d k) (def.right_means.faultless d k) in
     let here : slice_index_or (done ++ empty_equation e.name ∷ more) j no_equation ≡ empty_equation e.name = get_or_at done (empty_equation e.name) more no_equation j p in
@@ -316,7 +316,7 @@ pub record AreStatements (m : Model) (text : List ℕ) (ss : List Statement) : T
   pub defines : AreDefinitions (variable_names m) text m.equations definitions
   pub sets : AreBounds text m.variables bounds
   pub names : spelling text named ≡ m.name
-  pub solves : spelling text solved ≡ m.name
+  pub solves : lower (spelling text solved) ≡ lower m.name
   pub aims : Aims text (variable_names m) m.goal goal
   pub is : ss ≡ declared_variables ++ (declared_equations ++ (definitions ++ (bounds ++ model named ∷ solve solved goal ∷ [])))
 
@@ -343,7 +343,7 @@ model_stage text es vs eqs flags t h = rw h refl
 
 aim_done : (text : List ℕ) (names : List (List ℕ)) (d : Draft) (g : Option (Sense × VarId)) (goal : Option (Sense × Lexeme)) → Aims text names g goal → SoundGoal (length names) g → Knows names text d → aim text d goal ≡ Ok (with_goal d g)
 aim_done text names d None None h l k = refl
-aim_done text names d (Some (s, v)) (Some (r, t)) h l k = ap (aim_at d r t) (k v.at l t h.1) ∙ ap (λ s. Ok (with_goal d (Some (s, v)))) h.0
+aim_done text names d (Some (s, v)) (Some (r, t)) h l k = ap (aim_at d r t) (k v.at l t (ap lower h.1)) ∙ ap (λ s. Ok (with_goal d (Some (s, v)))) h.0
 aim_done text names d None (Some g) h l k = absurd h
 aim_done text names d (Some g) None h l k = absurd h
 
@@ -358,13 +358,13 @@ last_draft m new = record {
   goal = m.goal;
 }
 
-solve_stage : (text : List ℕ) (m : Model) (new : List Equation) (t : Lexeme) (goal : Option (Sense × Lexeme)) → spelling text t ≡ m.name → Aims text (variable_names m) m.goal goal → SoundGoal (length (variable_names m)) m.goal
+solve_stage : (text : List ℕ) (m : Model) (new : List Equation) (t : Lexeme) (goal : Option (Sense × Lexeme)) → lower (spelling text t) ≡ lower m.name → Aims text (variable_names m) m.goal goal → SoundGoal (length (variable_names m)) m.goal
     → entry_of (table (variable_names m) (equation_names m)) (lower m.name) ≡ None → FindsVariables (table (variable_names m) (equation_names m)) (variable_names m)
     → after text (with_goal (last_draft m new) None) (solve t goal) ≡ Ok (last_draft m new)
 solve_stage text m new t goal e a g h f =
     let d = with_goal (last_draft m new) None in
     let names = table (variable_names m) (equation_names m) in
-    let entry : declared_as text (with_goal (last_draft m new) None) t ≡ Some ModelName = ap (λ bs. entry_of (names ++ (lower m.name, ModelName) ∷ []) (lower bs)) e ∙ entry_behind names ((lower m.name, ModelName) ∷ []) (lower m.name) h ∙ entry_here [] (lower m.name) ModelName in
+    let entry : declared_as text (with_goal (last_draft m new) None) t ≡ Some ModelName = ap (entry_of (names ++ (lower m.name, ModelName) ∷ [])) e ∙ entry_behind names ((lower m.name, ModelName) ∷ []) (lower m.name) h ∙ entry_here [] (lower m.name) ModelName in
     let k : Knows (variable_names m) text (with_goal (last_draft m new) None) = knows (variable_names m) text d (finds_more names ((lower m.name, ModelName) ∷ []) (variable_names m) f) in
     ap (λ n. cond (is_model_entry n) (aim text d goal) (Err (Undeclared t.place))) entry ∙ aim_done text (variable_names m) d m.goal goal a g k
 
@@ -377,7 +377,18 @@ pub record MeansModel (m : Model) (text : List ℕ) (ss : List Statement) : Type
   pub is : whole_meaning text ss ≡ Ok model
   pub same : SameModel m model
 
-pub means_model : (m : Model) (text : List ℕ) (ss : List Statement) → Sound m → AreStatements m text ss → MeansModel m text ss
+-- what the statements of a model need to be performed
+pub record Fitting (m : Model) : Type 0 where
+  pub apart : AllPairs (λ a b. lower a ≢ lower b) (all_names m)
+  pub few_variables : length m.variables ≤ 512
+  pub few_equations : length m.equations ≤ 512
+  pub variables : All SoundVariable m.variables
+  pub goal : SoundGoal (length m.variables) m.goal
+
+pub fitting : {m : Model} → Sound m → Fitting m
+fitting s = record { apart = s.apart; few_variables = s.few_variables; few_equations = s.few_equations; variables = s.variables; goal = s.goal }
+
+pub means_model : (m : Model) (text : List ℕ) (ss : List Statement) → Fitting m → AreStatements m text ss → MeansModel m text ss
 means_model m text ss s a =
     let vs = variable_names m in
     let es = equation_names m in

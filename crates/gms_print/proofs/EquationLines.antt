@@ -3,6 +3,7 @@ use Rattle.std.proofs.Common.{◌≡◌, ℕ, ◌≤◌, true, false, List, [], 
 use Rattle.std.proofs.lemmas.List.Elements.{All-head, All-tail}
 use Rattle.emp_lex.specs.declared.token.TokenKind.TheVariants.{Relation as RelationKind}
 use Rattle.emp_lex.specs.Forms.{IsRelation}
+use Rattle.emp_list.specs.Case.{lower}
 use Rattle.emp_ast.specs.declared.tree.Tree.{Tree}
 use Rattle.emp_ast.specs.declared.model.Relation.{Relation}
 use Rattle.emp_ast.specs.declared.model.Relation.TheVariants.{Equal, AtLeast, AtMost, Nothing}
@@ -129,7 +130,7 @@ definition_line names e t u free l r =
           statement = definition h a.written e.relation b.written;
           stands = subst (λ xs. IsStatement (h ∷ d ∷ xs) (definition h a.written e.relation b.written)) (append_assoc us (k ∷ vs) (z ∷ []))
               (is_definition h d k z e.relation us vs a.written b.written (free.word, named) od.sort a.stands related b.stands oz.sort);
-          are = (record { head = h; left = a.written; right = b.written; is = refl; spelled = oh.bytes; left_means = means names text e.left t us l a; right_means = means names text e.right u vs r b }, tt);
+          are = (record { head = h; left = a.written; right = b.written; is = refl; spelled = ap lower oh.bytes; left_means = means names text e.left t us l a; right_means = means names text e.right u vs r b }, tt);
           level = λ ws.
               flat h (Name free.word) (d ∷ (us ++ k ∷ (vs ++ z ∷ [])) ++ ws) named refl
               ∙ flat d Dots ((us ++ k ∷ (vs ++ z ∷ [])) ++ ws) od.sort refl

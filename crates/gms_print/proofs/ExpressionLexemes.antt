@@ -2,6 +2,7 @@
 use Rattle.std.proofs.Common.{◌≡◌, ℕ, ◌+◌, ◌<◌, ◌≤◌, max, true, false, cond, not, ◌&&◌, nat_lt, List, [], ◌∷◌, ◌++◌, length, slice_index_or, Option, Some, None, refl, ap, ◌∙◌, arith, append_assoc}
 use Rattle.std.proofs.lemmas.Bool.Decides.{nat_tests}
 use Rattle.emp_num.specs.declared.frac.Frac.{Frac}
+use Rattle.emp_list.specs.Case.{lower}
 use Rattle.emp_ast.specs.declared.tree.Operator.{Operator}
 use Rattle.emp_ast.specs.declared.tree.Operator.TheVariants.{Plus, Minus, Times, Over}
 use Rattle.emp_ast.specs.Expression.{Expression, number, variable, negated, joined, power}
@@ -66,8 +67,8 @@ name_stands names k w text t below h e = record {
   written = name t;
   stands = a_name t (w, h);
   single = refl;
-  means = λ d knows. ap (λ o. variable (or_zero o)) (knows k below t e);
-  faultless = λ d knows. ap (λ o. fault_where (is_none o) (Undeclared t.place)) (knows k below t e);
+  means = λ d knows. ap (λ o. variable (or_zero o)) (knows k below t (ap lower e));
+  faultless = λ d knows. ap (λ o. fault_where (is_none o) (Undeclared t.place)) (knows k below t (ap lower e));
   shallow = flat t (Name w) h (λ n. refl);
 }
 
@@ -124,7 +125,7 @@ same_level Minus n = refl
 same_level Times n = refl
 same_level Over n = refl
 
-no_faults : (a b : Option ModelFault) → a ≡ None → b ≡ None → or_else a b ≡ None
+pub no_faults : (a b : Option ModelFault) → a ≡ None → b ≡ None → or_else a b ≡ None
 no_faults a b h k = ap (λ x. or_else x b) h ∙ k
 
 pub joined_stands : {names : List (List ℕ)} {k l : ℕ} {e f : Expression} {text : List ℕ} {ts us : List Lexeme} (op : Operator) (t : Lexeme) → t.sort ≡ operator_sort op → StandsFor names (left_level op) k e text ts → StandsFor names (right_level op) l f text us → StandsFor names (left_level op) (max k l) (joined op e f) text (ts ++ t ∷ us)

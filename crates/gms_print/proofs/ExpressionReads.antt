@@ -3,6 +3,7 @@
 use Rattle.std.proofs.Common.{◌≡◌, ℕ, ◌+◌, ◌<◌, ◌≤◌, true, false, nat_eq, List, [], ◌++◌, length, decimal, slice_index, slice_index_or, Some, None, Ok}
 use Rattle.emp_num.specs.declared.frac.Frac.{Frac}
 use Rattle.emp_num.specs.Numeral.{numeral_form, NumeralGives}
+use Rattle.emp_list.specs.Case.{lower}
 use Rattle.emp_ast.specs.Expression.{Expression}
 use Rattle.emp_lex.specs.declared.scan.Class.TheVariants.{Word}
 use Rattle.emp_lex.specs.Bytes.{is_of}
@@ -38,9 +39,9 @@ pub record EndsOperand (rest : List ℕ) : Type 0 where
   pub word : is_of Word (slice_index rest 0) ≡ false
   pub dot : nat_eq (slice_index rest 0) 46 ≡ false
 
--- each of the names finds its variable
+-- each of the names finds its variable, in any case
 abbrev pub Knows : List (List ℕ) → List ℕ → Draft → Type 0
-Knows names text d = (k : ℕ) → k < length names → (t : Lexeme) → spelling text t ≡ slice_index_or names k [] → variable_of text d t ≡ Some k
+Knows names text d = (k : ℕ) → k < length names → (t : Lexeme) → lower (spelling text t) ≡ lower (slice_index_or names k []) → variable_of text d t ≡ Some k
 
 -- the lexemes of a text stand for the expression at that level, in so many parentheses
 pub record StandsFor (names : List (List ℕ)) (level : Level) (levels : ℕ) (e : Expression) (text : List ℕ) (ts : List Lexeme) : Type 0 where

@@ -42,17 +42,17 @@ each_append P [] ys h k = k
 each_append P (x ∷ xs) ys h k = (h.0, each_append P xs ys h.1 k)
 
 -- ---- sorts of words and symbols
-abbrev none_passes : (Sort → Bool) → List (List ℕ × Sort) → Bool
+abbrev pub none_passes : (Sort → Bool) → List (List ℕ × Sort) → Bool
 none_passes p [] = true
 none_passes p (w ∷ ws) = not (p w.1) && none_passes p ws
 
-of_words_fails : (p : Sort → Bool) (other : Sort) (ws : List (List ℕ × Sort)) (bs : List ℕ) → p other ≡ false → none_passes p ws ≡ true → p (of_words other ws bs) ≡ false
+pub of_words_fails : (p : Sort → Bool) (other : Sort) (ws : List (List ℕ × Sort)) (bs : List ℕ) → p other ≡ false → none_passes p ws ≡ true → p (of_words other ws bs) ≡ false
 of_words_fails p other [] bs h k = h
 of_words_fails p other (w ∷ ws) bs h k =
     let a = and_parts (not (p w.1)) (none_passes p ws) k in
     cond_both (bytes_eq bs w.0) w.1 (of_words other ws bs) (λ s. p s ≡ false) (λ _. not-true (p w.1) a.0) (λ _. of_words_fails p other ws bs h a.1)
 
-abbrev symbols : List (List ℕ × Sort)
+abbrev pub symbols : List (List ℕ × Sort)
 symbols =
     (codes "+", Signed Plus) ∷ (codes "-", Signed Minus) ∷ (codes "*", Scaled Times) ∷ (codes "/", Scaled Over) ∷ (codes "**", Raise) ∷ (codes ";", Semicolon) ∷ (codes ",", Comma) ∷ (codes ".", Dot) ∷ (codes "..", Dots) ∷ (codes "(", Open) ∷ (codes ")", Close) ∷ []
 
@@ -95,17 +95,18 @@ name_free SymbolKind bs s w h k e = absurd (no_name s w (ap is_name_sort k ∙ s
 same_numeral : (f g : Frac) → ◌≡◌ {A = Sort} (Numeral f) (Numeral g) → f ≡ g
 same_numeral f g e = cc
 
-numeral_value : (kind : TokenKind) (bs : List ℕ) (s : Sort) (f : Frac) → IsSort kind bs s → s ≡ Numeral f → IsValue f
-numeral_value NameKind bs s f k e = absurd (no_numeral s f (ap is_numeral_sort k ∙ word_no_numeral bs) e)
-numeral_value NumeralKind bs s f k e = (bs, subst (λ g. NumeralGives bs (Ok g)) (same_numeral k.0 f (sym k.1 ∙ e)) k.2)
-numeral_value TextKind bs s f k e = absurd (no_numeral s f (ap is_numeral_sort k) e)
-numeral_value RelationKind bs s f k e = absurd (no_numeral s f (ap is_numeral_sort k) e)
-numeral_value SymbolKind bs s f k e = absurd (no_numeral s f (ap is_numeral_sort k ∙ symbol_no_numeral bs) e)
+-- a lexeme that is a numeral has the value of its bytes
+pub numeral_gives : (kind : TokenKind) (bs : List ℕ) (s : Sort) (f : Frac) → IsSort kind bs s → s ≡ Numeral f → NumeralGives bs (Ok f)
+numeral_gives NameKind bs s f k e = absurd (no_numeral s f (ap is_numeral_sort k ∙ word_no_numeral bs) e)
+numeral_gives NumeralKind bs s f k e = subst (λ g. NumeralGives bs (Ok g)) (same_numeral k.0 f (sym k.1 ∙ e)) k.2
+numeral_gives TextKind bs s f k e = absurd (no_numeral s f (ap is_numeral_sort k) e)
+numeral_gives RelationKind bs s f k e = absurd (no_numeral s f (ap is_numeral_sort k) e)
+numeral_gives SymbolKind bs s f k e = absurd (no_numeral s f (ap is_numeral_sort k ∙ symbol_no_numeral bs) e)
 
 good_lexeme : (text : List ℕ) (k : Token) (t : Lexeme) → IsFormed text k → IsLexeme text k t → IsGood text t
 good_lexeme text k t h i =
     let form : HasForm k.kind (spelling text t) = subst (λ a. HasForm k.kind (slice_range text a t.to)) (sym i.from) (subst (λ b. HasForm k.kind (slice_range text k.from b)) (sym i.to) h) in
-    record { name = λ w e. name_free k.kind (spelling text t) t.sort w form i.sort e; value = λ f e. numeral_value k.kind (spelling text t) t.sort f i.sort e }
+    record { name = λ w e. name_free k.kind (spelling text t) t.sort w form i.sort e; value = λ f e. (spelling text t, numeral_gives k.kind (spelling text t) t.sort f i.sort e) }
 
 good_list : (text : List ℕ) (ks : List Token) (ts : List Lexeme) → Each (IsFormed text) ks → AreLexemes text ks ts → Each (IsGood text) ts
 good_list text [] [] h k = tt

@@ -1,6 +1,7 @@
 -- The canonical text of a model stands for it, places aside.
 use Rattle.std.proofs.Common.{◌≡◌, ℕ, ◌+◌, List, [], ◌∷◌, ◌++◌, length, All, codes, refl, sym, ap, subst, ◌∙◌, arith, append_assoc}
 use Rattle.std.proofs.lemmas.List.{length-append, length-map, get_or_append_left, get_or-append-add}
+use Rattle.emp_list.specs.Case.{lower}
 use Rattle.emp_ast.specs.declared.model.Model.{Model}
 use Rattle.emp_ast.specs.Names.{variable_names, equation_names}
 use Rattle.gms_read.specs.declared.lexeme.Lexeme.{Lexeme}
@@ -10,7 +11,7 @@ use Rattle.gms_print.specs.Canonical.{names_line, goal_text, IsCanonical}
 use Rattle.gms_print.specs.ReadsBack.{ReadsBack}
 use Rattle.gms_print.proofs.Pieces.{rendered}
 use Rattle.gms_print.proofs.Sound.{IsFree, SoundEquation, SoundGoal, Sound}
-use Rattle.gms_print.proofs.Effects.{DeclaresVariables, DeclaresEquations, AreDefinitions, AreBounds, AreStatements, means_model}
+use Rattle.gms_print.proofs.Effects.{DeclaresVariables, DeclaresEquations, AreDefinitions, AreBounds, AreStatements, fitting, means_model}
 use Rattle.gms_print.proofs.Cutting.{cut}
 use Rattle.gms_print.proofs.NamesLines.{variables_line, equations_line}
 use Rattle.gms_print.proofs.EquationLines.{definition_lines}
@@ -56,7 +57,7 @@ statements m text ss p =
       defines = r.are_front;
       sets = s.are_front;
       names = t.are_front.spelled;
-      solves = t.are_back.spelled;
+      solves = ap lower t.are_back.spelled;
       aims = t.are_back.aims;
       is =
           p.is
@@ -97,7 +98,7 @@ ends m text s c =
 
 stands : (m : Model) (text : List ℕ) → Sound m → (ts : List Lexeme) → HasLexemes text ts → ReadsFile (λ ss. Parts m text ss) ts → ReadsBack text m
 stands m text s ts h r =
-    let means = means_model m text r.statements s (statements m text r.statements r.are) in
+    let means = means_model m text r.statements (fitting s) (statements m text r.statements r.are) in
     record {
       model = means.model;
       is = record { statements = r.statements; has = record { lexemes = ts; has = h; level = r.level; file = r.file }; is = means.is };
