@@ -28,7 +28,7 @@ use Rattle.emp_engine.specs.Form.{Wanted, called, number, symbol, keywords, lowe
 use Rattle.emp_engine.specs.Meaning.{free_variable, equation_of, equations_of, model_of}
 use Rattle.emp_engine.proofs.ParsingNames.{lower_is, not_true}
 use Rattle.emp_engine.proofs.ParsingWhole.{tail_written}
-use Rattle.emp_engine.proofs.WalkGives.{names_kept}
+use Rattle.emp_engine.proofs.OutlineNames.{names_kept}
 use Rattle.emp_engine.proofs.FormLexemes.{Fits, AllFit}
 use Rattle.emp_engine.proofs.FormSums.{parted, sum_expression, sum_is, SumRead, sum_read}
 

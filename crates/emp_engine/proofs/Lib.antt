@@ -8,6 +8,7 @@ pub mod LeavingOut
 pub mod Lexing
 pub mod LineRoom
 pub mod Loading
+pub mod OutlineNames
 pub mod PairingSaid
 pub mod ParsingComplete
 pub mod ParsingNames

@@ -37,17 +37,17 @@ whole_is_part : (text : List ℕ) (x y : Contents) → Says text x y → SaysPre
 whole_is_part text x y h = record { part = text; prefix = ([], append-nil text); said = h.said; files = h.files }
 
 -- ---- the headline, from what was said
-decided_point : (m i : List ℕ) (status : ℕ) (text : List ℕ) → Decides m i status text → status ≡ 0 → ReportsEquilibrium m i text
-decided_point m i status text (other_form h) e = absurd (omega arith)
-decided_point m i status text (point o n d fs form walk at) e = point_reports m i o n d fs form walk at
-decided_point m i status text (none o n fs form walk) e = absurd (omega arith)
-decided_point m i status text (wide o n form walk) e = absurd (omega arith)
+decided_point : (m i : List ℕ) (read : GamsModel) (status : ℕ) (text : List ℕ) → IsModelText m read → Decides m i status text → status ≡ 0 → ReportsEquilibrium m i text
+decided_point m i read status text is (other_form h) e = absurd (omega arith)
+decided_point m i read status text is (point o n d fs form walk at) e = point_reports m i read o n d fs is form walk at
+decided_point m i read status text is (none o n fs form walk) e = absurd (omega arith)
+decided_point m i read status text is (wide o n form walk) e = absurd (omega arith)
 
-decided_none : (m i : List ℕ) (status : ℕ) (text : List ℕ) → Decides m i status text → status ≡ 1 → HasNoEquilibrium m i
-decided_none m i status text (other_form h) e = absurd (omega arith)
-decided_none m i status text (point o n d fs form walk at) e = absurd (omega arith)
-decided_none m i status text (none o n fs form walk) e = refuted_none m i o n fs form walk
-decided_none m i status text (wide o n form walk) e = absurd (omega arith)
+decided_none : (m i : List ℕ) (read : GamsModel) (status : ℕ) (text : List ℕ) → IsModelText m read → Decides m i status text → status ≡ 1 → HasNoEquilibrium m i
+decided_none m i read status text is (other_form h) e = absurd (omega arith)
+decided_none m i read status text is (point o n d fs form walk at) e = absurd (omega arith)
+decided_none m i read status text is (none o n fs form walk) e = refuted_none m i read o n fs is form walk
+decided_none m i read status text is (wide o n form walk) e = absurd (omega arith)
 
 decided_no_fault : (m i : List ℕ) (status : ℕ) (text : List ℕ) → Decides m i status text → status ≡ 14 → ⊥
 decided_no_fault m i status text (other_form h) e = omega arith
@@ -77,7 +77,7 @@ shown m i model status text k (canonical ps t p c) e = record { model = model; m
 -- ---- an answer over two texts
 answer_point : (m i : List ℕ) (c : Command) (status : ℕ) (text : List ℕ) → Answers m i c status text → c ≡ Solve → status ≡ 0 → ReportsEquilibrium m i text
 answer_point m i k status text (refused c f n h) s e = absurd (omega arith)
-answer_point m i c u v (solved_texts k status text t h) s e = decided_point m i status text h e
+answer_point m i c u v (solved_texts k status text t h) s e = decided_point m i k status text t h e
 answer_point m i c u v (shown_texts k status text t h) s e = cc
 
 answer_shown : (m i : List ℕ) (c : Command) (status : ℕ) (text : List ℕ) → Answers m i c status text → c ≡ Print → status ≡ 0 → Shown m i text
@@ -91,7 +91,7 @@ record Solved (m i : List ℕ) (c : Command) : Type 0 where
 
 answer_none : (m i : List ℕ) (c : Command) (status : ℕ) (text : List ℕ) → Answers m i c status text → status ≡ 1 → Solved m i c
 answer_none m i k status text (refused c f n h) e = absurd (omega arith)
-answer_none m i c u v (solved_texts k status text t h) e = record { command = refl; none = decided_none m i status text h e }
+answer_none m i c u v (solved_texts k status text t h) e = record { command = refl; none = decided_none m i k status text t h e }
 answer_none m i c u v (shown_texts k status text t h) e = absurd (shown_no_fault k i status text h (inl e))
 
 record Refused (m text : List ℕ) : Type 0 where

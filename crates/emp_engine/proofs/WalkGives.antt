@@ -1,9 +1,10 @@
 -- What the walk's decision says of the two texts.
-use Rattle.std.proofs.Common.{◌≡◌, ℕ, ◌+◌, ◌<◌, ℤ, pos, List, [], ◌∷◌, map, fold, length, replicate, get_or, refl, sym, ap, subst, ◌∙◌, All}
+use Rattle.std.proofs.Common.{◌≡◌, ℕ, ◌+◌, ◌<◌, ℤ, pos, List, [], ◌∷◌, fold, length, replicate, get_or, refl, sym, ap, subst, ◌∙◌, All}
 use Rattle.std.proofs.lemmas.List.{get_or-map, length-map, length-replicate}
 use Rattle.emp_num.specs.declared.frac.Frac.{Frac}
 use Rattle.emp_num.proofs.Commons.{common_point, stands_for_common}
-use Rattle.emp_ast.specs.declared.model.Variable.{Variable}
+use Rattle.emp_ast.specs.declared.model.Model.{Model}
+use Rattle.gms_read.specs.Texts.{IsModelText}
 use Rattle.emp_rows.specs.declared.affine.Affine.{Affine}
 use Rattle.emp_rows.proofs.Exchange.{length-quotients}
 use Rattle.emp_rows.specs.Walk.{Dictionary, solved, refuted, walk_of, ArePoint}
@@ -12,9 +13,11 @@ use Rattle.emp_engine.specs.declared.outline.Outline.{Outline}
 use Rattle.emp_engine.specs.declared.outline.Term.{Term}
 use Rattle.emp_engine.specs.declared.outline.Pair.{Pair}
 use Rattle.emp_engine.specs.FirstForm.{IsForm}
-use Rattle.emp_engine.specs.Meaning.{free_variable, product_cells, sum_cells, model_of, annot_of, row_of, rows_of}
+use Rattle.emp_engine.specs.Meaning.{product_cells, sum_cells, model_of, annot_of, row_of, rows_of}
 use Rattle.emp_engine.specs.Report.{equilibrium_report}
-use Rattle.emp_engine.specs.Run.{ReportsEquilibrium, HasNoEquilibrium}
+use Rattle.emp_engine.specs.Run.{TextsSay, ReportsEquilibrium, HasNoEquilibrium}
+use Rattle.emp_engine.proofs.FormRead.{form_read}
+use Rattle.emp_engine.proofs.OutlineNames.{names_kept}
 use Rattle.emp_engine.proofs.SumValue.{length-product_cells}
 use Rattle.emp_engine.proofs.FirstLaw.{vanish_gives_equilibrium, equilibrium_gives_vanish}
 
@@ -34,19 +37,18 @@ rows_width o = λ k d l.
     let ts : List Term = get_or o.sums (get_or o.pairs k origin).equation [] in
     subst (λ (r : Affine). length r.cells ≡ length o.variables) (sym (get_or-map row o.pairs k origin d in_pairs)) (length-quotients (sum_cells (length o.variables) ts) _ ∙ length-sum_cells (length o.variables) ts)
 
--- the variables of an outline's model have its names
-pub names_kept : (ns : List (List ℕ)) → map (λ (v : Variable). v.name) (map free_variable ns) ≡ ns
-names_kept [] = refl
-names_kept (n ∷ ns) = ap (λ l. n ∷ l) (names_kept ns)
+texts_say : (model_text info_text : List ℕ) (read : Model) (o : Outline) → IsModelText model_text read → IsForm model_text info_text o → TextsSay model_text info_text (model_of o) (annot_of o)
+texts_say model_text info_text read o text form =
+    record { read = read; stands = text; same = form_read model_text info_text o read form text; outline = o; form = form; model_is = refl; annot_is = refl }
 
-pub point_reports : (model_text info_text : List ℕ) (o : Outline) (n : ℕ) (d : Dictionary) (fs : List Frac) → IsForm model_text info_text o → walk_of (length o.variables) (rows_of o) ≡ solved n d → ArePoint (length o.variables) d fs → ReportsEquilibrium model_text info_text (equilibrium_report (n + 1) o.variables fs)
-point_reports model_text info_text o n d fs form walk point =
+pub point_reports : (model_text info_text : List ℕ) (read : Model) (o : Outline) (n : ℕ) (d : Dictionary) (fs : List Frac) → IsModelText model_text read → IsForm model_text info_text o → walk_of (length o.variables) (rows_of o) ≡ solved n d → ArePoint (length o.variables) d fs → ReportsEquilibrium model_text info_text (equilibrium_report (n + 1) o.variables fs)
+point_reports model_text info_text read o n d fs text form walk point =
     let p = common_point fs in
     let stands = stands_for_common fs in
     record {
       model = model_of o;
       annot = annot_of o;
-      texts = record { outline = o; form = form; model_is = refl; annot_is = refl };
+      texts = texts_say model_text info_text read o text form;
       work = n + 1;
       fracs = fs;
       report = ap (λ names. equilibrium_report (n + 1) names fs) (sym (names_kept o.variables));
@@ -55,10 +57,10 @@ point_reports model_text info_text o n d fs form walk point =
       equilibrium = vanish_gives_equilibrium o form.sound p (stands.count ∙ point.count) (walk_vanishes (length o.variables) (rows_of o) n d fs p (rows_width o) walk point stands);
     }
 
-pub refuted_none : (model_text info_text : List ℕ) (o : Outline) (n : ℕ) (fs : List ℤ) → IsForm model_text info_text o → walk_of (length o.variables) (rows_of o) ≡ refuted n fs → HasNoEquilibrium model_text info_text
-refuted_none model_text info_text o n fs form walk = record {
+pub refuted_none : (model_text info_text : List ℕ) (read : Model) (o : Outline) (n : ℕ) (fs : List ℤ) → IsModelText model_text read → IsForm model_text info_text o → walk_of (length o.variables) (rows_of o) ≡ refuted n fs → HasNoEquilibrium model_text info_text
+refuted_none model_text info_text read o n fs text form walk = record {
   model = model_of o;
   annot = annot_of o;
-  texts = record { outline = o; form = form; model_is = refl; annot_is = refl };
+  texts = texts_say model_text info_text read o text form;
   none = λ p h. walk_refutes (length o.variables) (rows_of o) n fs p.den p.nums (rows_width o) walk p.positive (equilibrium_gives_vanish o form.sound p h);
 }

@@ -4,7 +4,7 @@ use Rattle.emp_num.specs.declared.frac.Frac.{Frac}
 use Rattle.emp_num.specs.Point.{Point, StandsFor}
 use Rattle.emp_ast.specs.declared.model.Model.{Model}
 use Rattle.emp_ast.specs.declared.annot.Annot.{Annot}
-use Rattle.emp_ast.specs.Names.{variable_names, equation_names}
+use Rattle.emp_ast.specs.Names.{variable_names, equation_names, SameModel}
 use Rattle.emp_ast.specs.Solved.{IsEquilibrium}
 use Rattle.gms_read.specs.declared.fault.ModelFault.{ModelFault}
 use Rattle.gms_read.specs.declared.fault.ModelFault.TheVariants.{NoMemory}
@@ -52,8 +52,11 @@ abbrev pub IsPrint : List (List ℕ) → Type 0
 IsPrint words = (model_file : List ℕ) × (info_file : List ℕ) × AsksPrint words model_file info_file
 
 -- ---- texts
--- the two texts stand for the model and the annotation
+-- the two texts stand for the model and the annotation: what the model text stands for is this model, places aside
 pub record TextsSay (model_text info_text : List ℕ) (m : Model) (a : Annot) : Type 0 where
+  pub read : Model
+  pub stands : IsModelText model_text read
+  pub same : SameModel read m
   pub outline : Outline
   pub form : IsForm model_text info_text outline
   pub model_is : m ≡ model_of outline
