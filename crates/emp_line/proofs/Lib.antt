@@ -1,0 +1,13 @@
+pub mod Steps
+pub mod Sound
+pub mod Joins
+pub mod Exchange
+pub mod Moves
+pub mod Kept
+pub mod Parts
+pub mod Mixed
+pub mod Seeds
+pub mod Small
+pub mod Whole
+pub mod Exactly
+pub mod Halving

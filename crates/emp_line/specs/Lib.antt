@@ -1,0 +1,3 @@
+pub mod Pivot
+pub mod Lines
+pub mod Place
