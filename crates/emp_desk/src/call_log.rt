@@ -4,7 +4,7 @@ ghost use Rattle.emp_desk.specs.Desk.{Place, loads, stores, output};
 ghost use Rattle.emp_desk.specs.Counts.{HasSameCounts, HasOneMoreAt};
 ghost use Rattle.emp_desk.specs.CallLog.{count_in, next_in, IsNextToFail};
 
-use crate::no_memory::NoMemory;
+use emp_list::memory::NoMemory;
 use std::alloc::Global;
 
 /// A call that failed, by its place.

@@ -5,7 +5,4 @@ mod call_log;
 pub mod desk;
 mod memory;
 pub mod memory_desk;
-pub mod no_memory;
 pub mod steady_desk;
-#[cfg(test)]
-mod tests;

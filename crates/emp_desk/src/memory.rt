@@ -4,7 +4,7 @@ ghost use Rattle.emp_desk.specs.Desk.{StoresPrefix, SaysPrefix};
 ghost use Rattle.emp_desk.specs.Files.{Kept, bytes_of, Puts, Removes, IsSameFiles};
 ghost use Rattle.emp_desk.specs.Memory.{files_of, output_of, contents_of};
 
-use crate::no_memory::NoMemory;
+use emp_list::memory::NoMemory;
 use std::alloc::Global;
 use std::collections::BTreeMap;
 

@@ -8,7 +8,7 @@ ghost use Rattle.emp_desk.specs.MemoryDesk.{kept, spoken, told, calls_of, to_fai
 use crate::call_log::CallLog;
 use crate::desk::{Desk, LoadFault, StoreFault};
 use crate::memory::Memory;
-use crate::no_memory::NoMemory;
+use emp_list::memory::NoMemory;
 use std::alloc::Global;
 
 /// Files and an output in memory.

@@ -6,7 +6,7 @@ ghost use Rattle.emp_desk.specs.SteadyDesk.{kept, spoken, told};
 
 use crate::desk::{Desk, LoadFault, StoreFault};
 use crate::memory::Memory;
-use crate::no_memory::NoMemory;
+use emp_list::memory::NoMemory;
 use std::alloc::Global;
 
 /// Files and an output in memory. A name that it does not keep reads as an empty file.

@@ -1,5 +1,6 @@
-//! Lists and names that contracts see as lists.
+//! Lists and names that contracts see as lists, and the want of memory.
 #![tactic(auto)]
 
+pub mod memory;
 pub mod name;
 pub mod seq;

@@ -10,3 +10,4 @@ pub mod Numeral
 pub mod FracLaws
 pub mod NumeralText
 pub mod Opposite
+pub mod SamePoint

@@ -1,10 +1,11 @@
-// What all numbers of a row have in common.
+//! What all numbers of a row have in common.
 ghost use Rattle.std.specs.Prelude.{◌≡◌};
 ghost use Rattle.emp_num.specs.Gcd.{content_from};
 
 use crate::exact::common_divisor;
 
-/// The greatest common divisor of a start and of the numbers of a row.
+/// The greatest common divisor of a start and of the numbers of a row, signs aside: 0 where all of them are 0. `content_from` of
+/// `specs/Gcd.antt` says it.
 #[tactic(auto, using(crate::proofs::Divisors::folding))]
 pub fn content_with(start: u128, row: &[i128]) -> u128
     ensures { result ≡ content_from start row.now }
@@ -14,16 +15,4 @@ pub fn content_with(start: u128, row: &[i128]) -> u128
         total = common_divisor(total, row[i].unsigned_abs());
     }
     total
-}
-
-#[cfg(test)]
-mod tests {
-    use super::*;
-
-    #[test]
-    fn contents(rt: HostRuntime) {
-        assert_eq!(rt; content_with(0, &[6, -9, 0]), 3);
-        assert_eq!(rt; content_with(4, &[]), 4);
-        assert_eq!(rt; content_with(0, &[0]), 0);
-    }
 }

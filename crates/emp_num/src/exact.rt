@@ -1,15 +1,17 @@
-// Numbers that are formed, and tested at once.
+//! Numbers that are formed, and tested at once.
 ghost use Rattle.std.specs.Prelude.{◌≡◌, ◌≤◌, ◌<ℤ◌, ◌+ℤ◌, ◌-ℤ◌, ◌*ℤ◌, MatchResult, unsigned_abs, pos};
 ghost use Prim.Native.Nat.{◌∣◌};
 ghost use Rattle.std.specs.Int.{IsGcd};
 ghost use Rattle.emp_num.specs.Exact.{IsNarrow, IsWide};
 
-/// A formed number has absolute value 2^126 or more.
+/// A formed number has absolute value 2^126 or more. `IsWide` of `specs/Exact.antt` says so of a number.
 #[derive(Clone, Copy, Debug, PartialEq, Eq)]
 pub struct Wide;
 
+/// 2^126, the absolute value from which on numbers are wide.
 pub const LIMIT: i128 = 85070591730234615865843651857942052864;
 
+/// The number itself, or `Wide` exactly where its absolute value is 2^126 or more.
 pub fn narrow(z: i128) -> Result<i128, Wide>
     ensures { MatchResult result (λ p. (p ≡ z) × IsNarrow z) (λ _. IsWide z) }
 {
@@ -20,6 +22,7 @@ pub fn narrow(z: i128) -> Result<i128, Wide>
     }
 }
 
+/// The product of any two numbers, or `Wide` exactly where its absolute value is 2^126 or more.
 pub fn product(a: i128, b: i128) -> Result<i128, Wide>
     ensures { MatchResult result (λ p. (p ≡ a *ℤ b) × IsNarrow (a *ℤ b)) (λ _. IsWide (a *ℤ b)) }
 {
@@ -29,6 +32,7 @@ pub fn product(a: i128, b: i128) -> Result<i128, Wide>
     }
 }
 
+/// The sum of any two numbers, or `Wide` exactly where its absolute value is 2^126 or more.
 pub fn sum(a: i128, b: i128) -> Result<i128, Wide>
     ensures { MatchResult result (λ p. (p ≡ a +ℤ b) × IsNarrow (a +ℤ b)) (λ _. IsWide (a +ℤ b)) }
 {
@@ -38,6 +42,7 @@ pub fn sum(a: i128, b: i128) -> Result<i128, Wide>
     }
 }
 
+/// The first number less the second, or `Wide` exactly where the absolute value of that is 2^126 or more.
 pub fn difference(a: i128, b: i128) -> Result<i128, Wide>
     ensures { MatchResult result (λ p. (p ≡ a -ℤ b) × IsNarrow (a -ℤ b)) (λ _. IsWide (a -ℤ b)) }
 {
@@ -47,7 +52,7 @@ pub fn difference(a: i128, b: i128) -> Result<i128, Wide>
     }
 }
 
-/// The greatest common divisor of two counts.
+/// The greatest common divisor of two counts, which is 0 where both are 0.
 pub fn common_divisor(a: u128, b: u128) -> u128
     ensures { IsGcd a b result }
 {
@@ -61,6 +66,7 @@ pub fn common_divisor(a: u128, b: u128) -> u128
     x
 }
 
+/// The greatest common divisor of two narrow numbers, signs aside. It is never below 0, and 0 only where both numbers are.
 pub fn gcd(a: i128, b: i128) -> i128
     requires narrow_a { IsNarrow a }
     requires narrow_b { IsNarrow b }
@@ -72,7 +78,7 @@ pub fn gcd(a: i128, b: i128) -> i128
     common_divisor(a.unsigned_abs(), b.unsigned_abs()) as i128
 }
 
-/// The quotient of a number by a divisor of it.
+/// The quotient of a number by a divisor of it that is above 0. The caller shows that it divides.
 pub fn exact_quotient(a: i128, divisor: i128) -> i128
     requires positive { pos 0 <ℤ divisor }
     requires divides { unsigned_abs divisor ∣ unsigned_abs a }
@@ -80,35 +86,4 @@ pub fn exact_quotient(a: i128, divisor: i128) -> i128
     ensures bound { unsigned_abs result ≤ unsigned_abs a }
 {
     a / divisor
-}
-
-#[cfg(test)]
-mod tests {
-    use super::*;
-
-    #[test]
-    fn bounds(rt: HostRuntime) {
-        for (a, b, added, multiplied) in [
-            (LIMIT - 1, 0, Ok(LIMIT - 1), Ok(0)),
-            (LIMIT - 1, 1, Err(Wide), Ok(LIMIT - 1)),
-            (1 - LIMIT, -1, Err(Wide), Ok(LIMIT - 1)),
-            (i128::MAX, 1, Err(Wide), Err(Wide)),
-            (LIMIT / 2, 2, Ok(LIMIT / 2 + 2), Err(Wide)),
-        ] {
-            assert!(rt; sum(a, b) == added, "{a} {b}");
-            assert!(rt; product(a, b) == multiplied, "{a} {b}");
-        }
-    }
-
-    #[test]
-    fn divisors(rt: HostRuntime) {
-        for (a, b, expected) in [
-            (0, 0, 0),
-            (-12, 18, 6),
-            (0, 1 - LIMIT, LIMIT - 1),
-            (LIMIT - 1, LIMIT - 2, 1),
-        ] {
-            assert_eq!(rt; gcd(a, b), expected);
-        }
-    }
 }

@@ -1,6 +1,7 @@
-// The laws of fractions and numerals, stated for the layers above.
+//! The laws of fractions and numerals, stated for the layers above.
 ghost use Rattle.emp_num.specs.FracLaws.{OrderIsTotal, EqualAreSame, SignsOfQuotients, SignsOfResults};
 ghost use Rattle.emp_num.specs.NumeralText.{NumeralsAreTexts};
+ghost use Rattle.emp_num.specs.SamePoint.{SameIsEquivalence, StandsForSame, LowestAreFractions, SamePointExamples};
 
 /// The order is total, and a comparison has one answer.
 pub fn order_is_total()
@@ -25,4 +26,24 @@ pub fn signs_of_results()
 /// A text has a numeral's form exactly where it is put together from a numeral's parts, which are those that are read.
 pub fn numerals_are_texts()
     ensures { NumeralsAreTexts }
+{}
+
+/// Points with equal coordinates: each is the same as itself, both ways, and on.
+pub fn same_is_equivalence()
+    ensures { SameIsEquivalence }
+{}
+
+/// A list of fractions stands for the points with its coordinates, and for no others, and no other list does.
+pub fn stands_for_same()
+    ensures { StandsForSame }
+{}
+
+/// The numbers of the fractions that stand for a point are its coordinates in lowest terms.
+pub fn lowest_are_fractions()
+    ensures { LowestAreFractions }
+{}
+
+/// Points that are the same and points that are not, on examples.
+pub fn same_point_examples()
+    ensures { SamePointExamples }
 {}

@@ -1,15 +1,17 @@
-// Numerals read exactly.
+//! Numerals read exactly.
 ghost use Rattle.std.specs.Prelude.{◌≡◌, ℕ, ◌+◌, ◌-◌, ◌*◌, ◌^◌, ◌<◌, ◌≤◌, pos, neg_ℤ, ◌-ℤ◌, length, take, drop, MatchOption};
 ghost use Rattle.emp_num.specs.Numeral.{digit, digits_of, after_digits, value_from, trimmed, first, fraction_digits, after_fraction, is_sign, is_mark, unsigned, exponent_digits, exponent_negative, only_digits, exponent_form, numeral_form, mantissa, scale, signed, DecimalGives, NumeralGives};
 ghost use Rattle.emp_num.specs.FracSpec.{IsQuotient};
 
+use crate::exact::LIMIT;
 use crate::frac::Frac;
 
-const BOUND: u128 = 85070591730234615865843651857942052864;
-
+/// Why a text gives no number.
 #[derive(Clone, Copy, Debug, PartialEq, Eq)]
 pub enum NumeralFault {
+    /// The text is no numeral: `numeral_form` of `specs/Numeral.antt` is false for it.
     Form,
+    /// The digits, or the upper or lower number that they and the exponent write, have absolute value 2^126 or more.
     Wide,
 }
 
@@ -19,7 +21,11 @@ fn with_digit(n: u128, b: u8) -> Option<u128>
 {
     let tens = n.checked_mul(10)?;
     let v = tens.checked_add(u128::from(b.saturating_sub(48)))?;
-    if v < BOUND { Some(v) } else { None }
+    if v < LIMIT.unsigned_abs() {
+        Some(v)
+    } else {
+        None
+    }
 }
 
 /// The number that digits write after another.
@@ -298,7 +304,10 @@ fn value_of_parts(
     shifted(m, negative, size, kept.len())
 }
 
-/// The fraction that a numeral writes.
+/// The fraction that a numeral writes: digits with at most one point, and an exponent or none. It has no sign.
+///
+/// `Form` exactly where the text is no numeral. `Wide` exactly where a number that its value is formed of, before it is reduced, has
+/// absolute value 2^126 or more; a numeral of value 0 is never `Wide`. `NumeralGives` of `specs/Numeral.antt` says both.
 #[tactic(auto, using(crate::proofs::Shifts::reading))]
 pub fn read_numeral(text: &[u8]) -> Result<Frac, NumeralFault>
     ensures { NumeralGives text.now result }
@@ -314,74 +323,4 @@ pub fn read_numeral(text: &[u8]) -> Result<Frac, NumeralFault>
         is_negative(tail),
         exponent_at(tail),
     )
-}
-
-#[cfg(test)]
-mod tests {
-    use super::*;
-    use std::test::Fail;
-
-    const MOST: i128 = 85070591730234615865843651857942052863;
-
-    const LARGE: i128 = 10000000000000000000000000000000000000;
-
-    #[test]
-    fn numerals(rt: HostRuntime) -> Result<(), Fail> {
-        for (text, num, den) in [
-            ("0", 0, 1),
-            ("007", 7, 1),
-            ("5.", 5, 1),
-            (".5", 1, 2),
-            ("0.10", 1, 10),
-            ("0.000", 0, 1),
-            ("12.50e-1", 5, 4),
-            ("0.5E+1", 5, 1),
-            ("1e-3", 1, 1000),
-            ("1e37", LARGE, 1),
-            ("1e-37", 1, LARGE),
-            ("0e999", 0, 1),
-            (".0e-99999999999999999999999999999999999999999999", 0, 1),
-            ("00000000000000000000000000000000000000000000000001", 1, 1),
-            ("1.00000000000000000000000000000000000000000000", 1, 1),
-            ("85070591730234615865843651857942052863", MOST, 1),
-        ] {
-            let found = read_numeral(text.as_bytes()).map(|f| (f.num, f.den));
-            assert!(rt; found == Ok((num, den)), "{text}");
-        }
-        Ok(())
-    }
-
-    #[test]
-    fn faults(rt: HostRuntime) {
-        for (text, fault) in [
-            ("", NumeralFault::Form),
-            (".", NumeralFault::Form),
-            ("e5", NumeralFault::Form),
-            (".e5", NumeralFault::Form),
-            ("1e", NumeralFault::Form),
-            ("1e+", NumeralFault::Form),
-            ("1e+-2", NumeralFault::Form),
-            ("1e2.", NumeralFault::Form),
-            ("..5", NumeralFault::Form),
-            ("5..", NumeralFault::Form),
-            ("-1", NumeralFault::Form),
-            (" 1", NumeralFault::Form),
-            ("1 ", NumeralFault::Form),
-            ("1e38", NumeralFault::Wide),
-            ("1e-38", NumeralFault::Wide),
-            ("100e-38", NumeralFault::Wide),
-            ("1e400", NumeralFault::Wide),
-            (
-                "1e-99999999999999999999999999999999999999999999",
-                NumeralFault::Wide,
-            ),
-            (
-                "1e99999999999999999999999999999999999999999999",
-                NumeralFault::Wide,
-            ),
-            ("85070591730234615865843651857942052864", NumeralFault::Wide),
-        ] {
-            assert!(rt; read_numeral(text.as_bytes()) == Err(fault), "{text}");
-        }
-    }
 }

@@ -1,4 +1,4 @@
-// The order of fractions, with no product formed.
+//! The order of fractions, with no product formed.
 ghost use Rattle.std.specs.Prelude.{◌*◌, ◌<◌, ◌*ℤ◌};
 ghost use Rattle.emp_num.specs.Orders.{IsOrder, IsCountOrder};
 
@@ -44,6 +44,7 @@ fn cmp_quotients(a: u128, b: u128, c: u128, d: u128) -> Ordering
 }
 
 impl Frac {
+    /// How a stands to b as numbers. It is exact for every two fractions and forms no product, so there is no error.
     #[tactic(auto, using(crate::proofs::Quotients::signed_orders))]
     pub fn cmp(a: Frac, b: Frac) -> Ordering
         ensures { IsOrder result (a.num *ℤ b.den) (b.num *ℤ a.den) }
@@ -61,32 +62,5 @@ impl Frac {
         } else {
             cmp_quotients(m, d, n, e)
         }
-    }
-}
-
-#[cfg(test)]
-mod tests {
-    use super::*;
-    use std::test::Fail;
-
-    const MOST: i128 = 85070591730234615865843651857942052863;
-
-    #[test]
-    fn orders(rt: HostRuntime) -> Result<(), Fail> {
-        for (a, b, expected) in [
-            ((1, 3), (1, 2), Ordering::Less),
-            ((-1, 3), (-1, 2), Ordering::Greater),
-            ((-1, MOST), (0, 1), Ordering::Less),
-            ((0, 1), (-1, MOST), Ordering::Greater),
-            ((MOST, 1), (MOST, 1), Ordering::Equal),
-            ((-MOST, 1), (MOST, 1), Ordering::Less),
-            ((MOST, MOST - 1), (MOST - 1, MOST - 2), Ordering::Less),
-            ((-MOST, MOST - 1), (1 - MOST, MOST - 2), Ordering::Greater),
-            ((355, 113), (22, 7), Ordering::Less),
-        ] {
-            let found = Frac::cmp(Frac::new(a.0, a.1)?, Frac::new(b.0, b.1)?);
-            assert!(rt; found == expected, "{a:?} {b:?}");
-        }
-        Ok(())
     }
 }

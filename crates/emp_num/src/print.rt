@@ -1,4 +1,4 @@
-// Fractions as text.
+//! Fractions as text.
 ghost use Rattle.std.specs.Prelude.{◌≡◌, ◌+◌, ◌≤◌, ◌++◌, length, take};
 ghost use Rattle.emp_num.specs.FracText.{fraction_text};
 
@@ -18,7 +18,7 @@ fn put(out: &mut [u8], at: usize, text: &[u8]) -> usize
     at + text.len()
 }
 
-/// Writes `n` or `n/d` at the start of the buffer, and answers where it ends.
+/// Writes `n` or `n/d` at the start of the buffer, and answers where it ends. Every fraction has room in 96 bytes.
 #[tactic(auto, using(crate::proofs::Printing::printing))]
 pub fn print_frac(value: Frac, out: &mut [u8; 96]) -> usize
     ensures within { result ≤ 96 }
@@ -31,30 +31,4 @@ pub fn print_frac(value: Frac, out: &mut [u8; 96]) -> usize
     }
     let end = put(out, end, b"/");
     put(out, end, buffer.format(value.den).as_bytes())
-}
-
-#[cfg(test)]
-mod tests {
-    use super::*;
-    use std::test::Fail;
-
-    const MOST: i128 = 85070591730234615865843651857942052863;
-
-    #[test]
-    fn texts(rt: HostRuntime) -> Result<(), Fail> {
-        for (num, den, expected) in [
-            (0, 7, "0"),
-            (12, -586, "-6/293"),
-            (
-                -MOST,
-                MOST - 1,
-                "-85070591730234615865843651857942052863/85070591730234615865843651857942052862",
-            ),
-        ] {
-            let mut out = [0; 96];
-            let end = print_frac(Frac::new(num, den)?, &mut out);
-            assert!(rt; &out[..end] == expected.as_bytes(), "{expected}");
-        }
-        Ok(())
-    }
 }

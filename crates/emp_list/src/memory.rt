@@ -1,8 +1,8 @@
-//! The refusal of a desk in memory.
+//! The want of memory.
 
 use std::alloc::{AllocError, AllocFailed};
 
-/// There was no memory for what was asked.
+/// There was no memory for what was asked. What was to be changed is as it was, unless the call says otherwise.
 #[derive(Clone, Copy, Debug, PartialEq, Eq)]
 pub struct NoMemory;
 
