@@ -1,6 +1,6 @@
 -- A chosen exchange keeps Required quantities at least 0, and takes the aimed one to 0 at most.
-use Rattle.std.proofs.Common.{◌≡◌, ◌≢◌, ℕ, ◌*◌, ◌<◌, ◌≤◌, ◌⊎◌, inl, inr, ℤ, pos, negsuc, neg_ℤ, ◌+ℤ◌, ◌-ℤ◌, ◌*ℤ◌, ◌≤ℤ◌, ◌<ℤ◌, unsigned_abs, true, [], ◌∷◌, arith, refl, sym, ap, ap₂, ◌∙◌, subst}
-use lib.IntN.{zero-*ℤ}
+use Rattle.std.proofs.Common.{◌≡◌, ◌≢◌, ℕ, ◌*◌, ◌<◌, ◌≤◌, ◌⊎◌, inl, inr, ℤ, pos, negsuc, neg_ℤ, ◌+ℤ◌, ◌-ℤ◌, ◌*ℤ◌, ◌≤ℤ◌, ◌<ℤ◌, unsigned_abs, true, false, [], ◌∷◌, arith, refl, sym, ap, ap₂, ◌∙◌, subst}
+use lib.IntN.{zero-*ℤ, *ℤ-zero}
 use Rattle.std.proofs.lemmas.Int.{ints, unsigned_abs-mul}
 use Rattle.std.proofs.lemmas.Bool.{cases_eq, both_ways}
 use Rattle.emp_algebra.proofs.Laws.{mul_nonneg}
@@ -9,7 +9,8 @@ use Rattle.emp_algebra.proofs.Order.{linear, le_cancel_right, le_or_lt}
 use Rattle.emp_turns.specs.Table.{Table, IsTable}
 use Rattle.emp_turns.specs.Choice.{Mark, Required, Way, Up, Down, toward, Aim, IsChosen, IsExchange, IsFeasible}
 use Rattle.emp_turns.proofs.Signs.{toward_square, only_up, slide, slide_nonneg}
-use Rattle.emp_turns.proofs.Steps.{Point, point}
+use Rattle.emp_turns.proofs.Systems.{Filled, fill, row_still}
+use Rattle.emp_turns.proofs.Steps.{Point, point, still_after}
 
 -- ---- absolute values
 abbrev abs : ℤ → ℤ
@@ -141,3 +142,32 @@ module _ (n : ℕ) (mark : ℕ → Mark) (aim : Aim) (t u : Table) (e l : ℕ) (
       ring3 (λ d r y. d ⊗ neg (r ⊗ y)) (λ d r y. neg (r ⊗ (d ⊗ y))) refl (u.denom aim.row) (toward aim.way) (p.value aim.row) ∙ (ap (λ z. neg_ℤ (toward aim.way *ℤ z)) (p.after aim.row b ru) ∙ ring3 (λ r c s. neg (r ⊗ (c ⊗ s))) (λ r c s. neg (r ⊗ c) ⊗ s) refl (toward aim.way) (u.constant aim.row) p.scale) in
       let low = of_row_nonneg (u.denom aim.row) (neg_ℤ (toward aim.way *ℤ p.value aim.row)) (neg_ℤ (toward aim.way *ℤ u.constant aim.row)) p.scale (hu.positive aim.row b ru) p.positive after value in
       omega (arith, linear)
+
+-- ---- an exchange whose leaving row has the value 0 changes no value
+pub zero_leaves : (n : ℕ) (mark : ℕ → Mark) (t u : Table) (e l : ℕ) → IsTable n t → IsTable n u → IsExchange n t e l u → e < n → t.is_row e ≡ false → l < n → t.is_row l ≡ true → t.constant l ≡ pos 0 → IsFeasible n mark t → IsFeasible n mark u
+zero_leaves n mark t u e l ht hu x in_e column in_l row zero_there feasible v below here asked = go (cases_eq v e)
+  where
+    f : Filled n t (pos 1) (λ w. pos 0)
+    f = fill n t ht (pos 1) (λ w. pos 0)
+
+    s : ℤ
+    s = f.by *ℤ pos 1
+
+    s_pos : pos 0 <ℤ s
+    s_pos = let p = f.positive in omega (arith, ints)
+
+    still_t : (w : ℕ) → w < n → t.is_row w ≡ false → f.value w ≡ pos 0
+    still_t w k c = f.columns w k c ∙ *ℤ-zero f.by
+
+    after : u.denom v *ℤ f.value v ≡ u.constant v *ℤ s
+    after = row_still n u hu s f.value ((x.same s f.value).0 f.holds) (still_after n t e l u ht x in_l row zero_there s f.value f.holds still_t) v below here
+
+    value_nonneg : v ≢ e → pos 0 ≤ℤ f.value v
+    value_nonneg ne =
+        let nl : v ≢ l = λ k. both_ways (u.is_row v) (ap u.is_row k ∙ x.left) here in
+        let r : t.is_row v ≡ true = sym (x.others v below ne nl) ∙ here in
+        to_row_nonneg (t.denom v) (f.value v) (t.constant v *ℤ s) (ht.positive v below r) (row_still n t ht s f.value f.holds still_t v below r) (mul_nonneg (t.constant v) s (feasible v below r asked) (let p = s_pos in omega (arith, ints)))
+
+    go : (v ≡ e) ⊎ (v ≢ e) → pos 0 ≤ℤ u.constant v
+    go (inl q) = of_row_nonneg (u.denom v) (f.value v) (u.constant v) s (hu.positive v below here) s_pos after (let z : f.value v ≡ pos 0 = ap f.value q ∙ still_t e in_e column in omega (arith, ints))
+    go (inr q) = of_row_nonneg (u.denom v) (f.value v) (u.constant v) s (hu.positive v below here) s_pos after (value_nonneg q)

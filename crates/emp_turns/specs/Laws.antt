@@ -1,13 +1,17 @@
 -- The laws, as statements.
-use Rattle.std.specs.Prelude.{◌≡◌, ◌↔◌, ℕ, suc, ◌^◌, ◌<◌, ◌≤◌, ℤ, pos, ◌*ℤ◌, ◌≤ℤ◌, ◌<ℤ◌, true, Some, None}
+use Rattle.std.specs.Prelude.{◌≡◌, ◌↔◌, ℕ, suc, ◌^◌, ◌<◌, ◌≤◌, ℤ, pos, ◌*ℤ◌, ◌≤ℤ◌, ◌<ℤ◌, true, false, Some, None}
 use Rattle.emp_turns.specs.Table.{Table, Holds, IsTable}
-use Rattle.emp_turns.specs.Choice.{Mark, Way, Aim, toward, IsChosen, IsExchange, Step, IsLevel, Path, SameColumns}
+use Rattle.emp_turns.specs.Choice.{Mark, Way, Aim, toward, IsChosen, IsExchange, IsFeasible, Step, IsLevel, Path, SameColumns}
 use Rattle.emp_turns.specs.Layout.{Layout, table_of, IsLayout, RowsHold, IsRelabelled, IsTurned, IsPivot, ColumnOpens, RowStops, IsChoice}
 use Rattle.emp_turns.specs.Chooses.{Entry, first_column, nearest_row}
 
 -- a turn of the loop keeps the table level, and does not take the aimed quantity past 0
 abbrev pub StepsKeep : Type 0
 StepsKeep = (n k : ℕ) (mark : ℕ → Mark) (aim : Aim) (t u : Table) → IsLevel n k mark aim t → Step n mark aim t u → IsLevel n k mark aim u × (u.is_row aim.row ≡ true → aim.stops ≡ true → (toward aim.way *ℤ u.constant aim.row) ≤ℤ pos 0)
+
+-- an exchange whose leaving row has the value 0 keeps Required quantities at least 0
+abbrev pub ZeroLeaves : Type 0
+ZeroLeaves = (n : ℕ) (mark : ℕ → Mark) (t u : Table) (e l : ℕ) → IsTable n t → IsTable n u → IsExchange n t e l u → e < n → t.is_row e ≡ false → l < n → t.is_row l ≡ true → t.constant l ≡ pos 0 → IsFeasible n mark t → IsFeasible n mark u
 
 -- no set of columns comes twice
 abbrev pub NoCycle : Type 0

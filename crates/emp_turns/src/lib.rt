@@ -4,11 +4,16 @@
 #![tactic(auto)]
 
 ghost use Rattle.emp_turns.specs.Example.{ExampleTurns};
-ghost use Rattle.emp_turns.specs.Laws.{StepsKeep, NoCycle, EndsInTime, LayoutsAre, ChoicesAre, TurnsAreSteps};
+ghost use Rattle.emp_turns.specs.Laws.{StepsKeep, ZeroLeaves, NoCycle, EndsInTime, LayoutsAre, ChoicesAre, TurnsAreSteps};
 
 /// A turn of the loop keeps Required quantities at least 0, and does not take the aimed one past 0.
 pub fn steps_keep()
     ensures { StepsKeep }
+{}
+
+/// An exchange whose leaving row has the value 0 keeps Required quantities at least 0.
+pub fn zero_leaves()
+    ensures { ZeroLeaves }
 {}
 
 /// While the loop runs, no set of columns comes twice.
