@@ -1,0 +1,5 @@
+use Rattle.emp_systems.proofs.Lagrange as Lagrange
+use Rattle.emp_systems.proofs.laws.multipliers_have_rows.Goals as goal
+
+pub returns : goal.returns
+returns c = Lagrange.multipliers_have_rows
