@@ -25,7 +25,7 @@ use Rattle.emp_ast.specs.Blocks.{owns, constraints, names_equ}
 use Rattle.emp_ast.specs.Solved.{Fits, IsRival, sides_gap, gap, flow, IsAtLeastZero, IsSolvedVi, IsSolved, has_dual, IsEquilibrium}
 use Rattle.emp_rows.specs.declared.affine.Affine.{Affine}
 use Rattle.emp_rows.specs.Affine.{value_times, AllVanish}
-use Rattle.emp_rows.proofs.Primitive.{primitive_zeros}
+use Rattle.emp_rows.proofs.Divided.{primitive_zeros}
 use Rattle.emp_engine.specs.declared.outline.Outline.{Outline}
 use Rattle.emp_engine.specs.declared.outline.Term.{Term}
 use Rattle.emp_engine.specs.declared.outline.Pair.{Pair}

@@ -11,7 +11,8 @@ use Rattle.emp_num.proofs.Gcds.{quot_exact, divisor_pos, positive_from_product}
 use Rattle.emp_num.proofs.GcdLaws.{content_divides}
 use Rattle.emp_num.proofs.Divisors.{IsGcd-gcd_of}
 use Rattle.emp_rows.specs.declared.line.Line.{Line}
-use Rattle.emp_rows.specs.Pivot.{sign, is_zero, quotients, line_content, reduced, turned_by, turned, Factors, factors, combined}
+use Rattle.emp_rows.specs.Quotients.{quotients}
+use Rattle.emp_rows.specs.Pivot.{sign, is_zero, line_content, reduced, turned_by, turned, Factors, factors, combined}
 
 -- what is missing for the line to hold, where d stands for 1, v for the line's own quantity and ws for those of the columns
 abbrev pub defect : ℤ → Line → ℤ → List ℤ → ℤ

@@ -1,8 +1,9 @@
+pub mod Quotients
 pub mod Exchange
 pub mod Moves
 pub mod Dictionaries
 pub mod WalkLaws
-pub mod Primitive
+pub mod Divided
 pub mod Reduced
 pub mod Steps
 pub mod Sound
@@ -10,3 +11,10 @@ pub mod Joins
 pub mod Walks
 pub mod Goes
 pub mod WalkCount
+pub mod Tests
+pub mod Values
+pub mod Systems
+pub mod Holding
+pub mod Points
+pub mod Joint
+pub mod Multiples

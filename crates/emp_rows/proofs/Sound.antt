@@ -15,20 +15,13 @@ use Rattle.emp_num.specs.Gcd.{gcd_of, content_from, content_of}
 use Rattle.emp_num.proofs.Gcds.{quot_exact, positive_from_product}
 use Rattle.emp_num.proofs.Divisors.{IsGcd-gcd_of, gcd_of_zero}
 use Rattle.emp_rows.specs.declared.line.Line.{Line}
-use Rattle.emp_rows.specs.Pivot.{sign, is_wide, quotients, line_content, reduced, turned, Factors, factors, combined, step_wide, steps_wide, combination_wide}
+use Rattle.emp_rows.specs.Quotients.{quotients}
+use Rattle.emp_rows.specs.Pivot.{sign, is_wide, line_content, reduced, turned, Factors, factors, combined, step_wide, steps_wide, combination_wide}
 use Rattle.emp_rows.specs.Steps.{IsLine}
 use Rattle.emp_rows.proofs.Steps.{narrow_from, or_left, or_right}
+use Rattle.emp_rows.proofs.Quotients.{gcd_positive, gcd_narrow, quotient_small, quotient_narrow, quotient_positive}
 
 -- ---- contents
-pub gcd_positive : (h : ℤ) (a : ℕ) → pos 0 <ℤ h → 0 < gcd_of (unsigned_abs h) a
-gcd_positive h a p = let q : 0 < unsigned_abs h = omega (arith, ints) in pos_of_dvd_of_pos (IsGcd-gcd_of (unsigned_abs h) a).0 q
-
-pub gcd_narrow : (h : ℤ) (a : ℕ) → pos 0 <ℤ h → IsNarrow h → gcd_of (unsigned_abs h) a < 2 ^ 126
-gcd_narrow h a p n =
-    let q : 0 < unsigned_abs h = omega (arith, ints) in
-    let l : gcd_of (unsigned_abs h) a ≤ unsigned_abs h = le_of_dvd q (IsGcd-gcd_of (unsigned_abs h) a).0 in
-    omega arith
-
 pub content_from-divides : (g : ℕ) (zs : List ℤ) → content_from g zs ∣ g
 content_from-divides g [] = dvd_refl g
 content_from-divides g (z ∷ zs) = dvd_trans (content_from (gcd_of g (unsigned_abs z)) zs) (content_from-divides (gcd_of g (unsigned_abs z)) zs) (IsGcd-gcd_of g (unsigned_abs z)).0
@@ -53,13 +46,6 @@ common_narrow l p n =
     omega arith
 
 -- ---- quotients
-pub quotient_small : (a : ℤ) (g : ℕ) → unsigned_abs (int_div a (pos g)) ≤ unsigned_abs a
-quotient_small (pos a) g = div-le_self a g
-quotient_small (negsuc a) g = omega (arith, ints, div-le_self (suc a) g)
-
-pub quotient_narrow : (a : ℤ) (g : ℕ) → IsNarrow a → IsNarrow (int_div a (pos g))
-quotient_narrow a g h = let k = quotient_small a g in omega (arith, quotient_small a g)
-
 pub quotients_narrow : (r : List ℤ) (g : ℕ) → All IsNarrow r → All IsNarrow (quotients r (pos g))
 quotients_narrow [] g h = All-nil IsNarrow
 quotients_narrow (z ∷ r) g h = All-cons IsNarrow (int_div z (pos g)) (quotients r (pos g)) (quotient_narrow z g (All-head IsNarrow z r h)) (quotients_narrow r g (All-tail IsNarrow z r h))
@@ -67,9 +53,6 @@ quotients_narrow (z ∷ r) g h = All-cons IsNarrow (int_div z (pos g)) (quotient
 pub length-quotients : (r : List ℤ) (g : ℤ) → length (quotients r g) ≡ length r
 length-quotients [] g = refl
 length-quotients (z ∷ r) g = ap suc (length-quotients r g)
-
-pub quotient_positive : (a : ℤ) (g : ℕ) → g ∣ unsigned_abs a → 0 < g → pos 0 <ℤ a → pos 0 <ℤ int_div a (pos g)
-quotient_positive a g d p q = positive_from_product (int_div a (pos g)) (pos g) a (quot_exact a (pos g) d) (omega (arith, ints)) q
 
 pub reduced_sound : (w : ℕ) (l : Line) → IsLine w l → IsLine w (reduced l)
 reduced_sound w l s = record {

@@ -4,6 +4,7 @@ use Rattle.std.specs.Prelude.{ℕ, zero, suc, ◌+◌, ◌^◌, ℤ, pos, negsuc
 use Rattle.emp_algebra.specs.Vector.{cell, scale, add_rows}
 use Rattle.emp_num.specs.Gcd.{gcd_of, content_of}
 use Rattle.emp_rows.specs.declared.line.Line.{Line}
+use Rattle.emp_rows.specs.Quotients.{quotients}
 
 abbrev pub sign : ℤ → ℤ
 sign (pos zero) = pos 0
@@ -18,10 +19,6 @@ is_zero (negsuc n) = false
 -- absolute value 2^126 or more
 abbrev pub is_wide : ℤ → Bool
 is_wide z = nat_le (2 ^ 126) (unsigned_abs z)
-
-abbrev pub quotients : List ℤ → ℤ → List ℤ
-quotients [] g = []
-quotients (z ∷ zs) g = (int_div z g) ∷ quotients zs g
 
 -- the line divided by what all its numbers have in common
 abbrev pub line_content : Line → ℤ

@@ -6,6 +6,7 @@ ghost use Rattle.emp_num.specs.Gcd.{content_of};
 ghost use Rattle.emp_rows.specs.Affine.{divisor_of, primitive_of};
 
 use crate::reduce::{quotient, quotients};
+use emp_list::memory::NoMemory;
 use emp_list::seq::Seq;
 use emp_num::content::content_with;
 use std::alloc::{AllocError, Global};
@@ -43,6 +44,17 @@ fn divided(alloc: Global, cells: &[i128], constant: i128) -> Result<Affine, Allo
 }
 
 impl Affine {
+    /// The same quantity once more.
+    pub fn copy(&self, alloc: Global) -> Result<Affine, NoMemory>
+        ensures { IfOk result (λ r. r ≡ self.now) }
+    {
+        let cells = self.cells.copy(alloc)?;
+        Ok(Affine {
+            cells,
+            constant: self.constant,
+        })
+    }
+
     ghost use Rattle.emp_algebra.specs.Vector.{dot};
     ghost use Rattle.emp_rows.specs.Affine.{IsRow, value_times};
 

@@ -4,5 +4,8 @@
 pub mod affine;
 pub mod laws;
 pub mod line;
+pub mod point;
+pub mod primitive;
 pub mod reduce;
+pub mod system;
 pub mod walk;

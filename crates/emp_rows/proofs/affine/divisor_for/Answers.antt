@@ -3,7 +3,7 @@ use mir.Syntax.{w128}
 use mir.Val.{SFits}
 use Rattle.std.proofs.lemmas.Int.{to_z-of_z}
 use Rattle.emp_num.specs.Gcd.{content_from}
-use Rattle.emp_rows.proofs.Primitive.{content_below}
+use Rattle.emp_rows.proofs.Divided.{content_below}
 use Rattle.emp_rows.proofs.affine.divisor_for.Goals as goal
 
 pub returns-else-common-eq0-clause-narrow : goal.returns-else-common-eq0-clause-narrow

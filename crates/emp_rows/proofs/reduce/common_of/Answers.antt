@@ -5,7 +5,7 @@ use Rattle.std.specs.Int.{IsGcd}
 use Rattle.std.proofs.lemmas.Int.{to_z-of_z}
 use Rattle.emp_num.specs.Gcd.{gcd_of}
 use Rattle.emp_num.proofs.Divisors.{gcd_of_is}
-use Rattle.emp_rows.proofs.Sound.{gcd_positive, gcd_narrow}
+use Rattle.emp_rows.proofs.Quotients.{gcd_positive, gcd_narrow}
 use Rattle.emp_rows.proofs.reduce.common_of.Goals as goal
 use Rattle.emp_rows.proofs.reduce.common_of.Goals.{After-common_divisor}
 

@@ -5,7 +5,7 @@ use Rattle.std.proofs.lemmas.Int.{to_z-of_z}
 use Rattle.emp_algebra.specs.Vector.{dot}
 use Rattle.emp_rows.specs.declared.affine.Affine.{Affine}
 use Rattle.emp_rows.specs.Affine.{IsRow, value_times, primitive_of}
-use Rattle.emp_rows.proofs.Primitive.{if_ok_weaker, primitive_row, primitive_zeros}
+use Rattle.emp_rows.proofs.Divided.{if_ok_weaker, primitive_row, primitive_zeros}
 use Rattle.emp_rows.proofs.affine.Affine.primitive.Goals as goal
 
 pub returns-clause-row : goal.returns-clause-row

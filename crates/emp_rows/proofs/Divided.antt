@@ -15,8 +15,8 @@ use Rattle.emp_num.specs.Gcd.{gcd_of, content_from, content_of}
 use Rattle.emp_num.proofs.Gcds.{gcd_below, quot_exact}
 use Rattle.emp_num.proofs.Divisors.{IsGcd-gcd_of}
 use Rattle.emp_rows.specs.Affine.{IsRow, value_times, divisor_of, primitive_of}
-use Rattle.emp_rows.specs.Pivot.{quotients}
-use Rattle.emp_rows.proofs.Sound.{quotient_narrow}
+use Rattle.emp_rows.specs.Quotients.{quotients}
+use Rattle.emp_rows.proofs.Quotients.{quotient_narrow}
 
 pub if_ok_weaker : {X E : Type 0} (r : Result X E) (P Q : X → Type 0) → ((x : X) → P x → Q x) → IfOk r P → IfOk r Q
 if_ok_weaker (Ok x) P Q f h = f x h
@@ -39,11 +39,11 @@ content_divides g (z ∷ zs) =
     let k = IsGcd-gcd_of g (unsigned_abs z) in
     (dvd_trans (content_from (gcd_of g (unsigned_abs z)) zs) h.0 k.0, (dvd_trans (content_from (gcd_of g (unsigned_abs z)) zs) h.0 k.1, h.1))
 
-exact : (n : ℕ) (z : ℤ) → n ∣ unsigned_abs z → int_div z (divisor_of n) *ℤ divisor_of n ≡ z
+pub exact : (n : ℕ) (z : ℤ) → n ∣ unsigned_abs z → int_div z (divisor_of n) *ℤ divisor_of n ≡ z
 exact zero z h = quot_exact z (pos 1) (one-dvd (unsigned_abs z))
 exact (suc n) z h = quot_exact z (pos (suc n)) h
 
-divisor_above : (n : ℕ) → pos 0 <ℤ divisor_of n
+pub divisor_above : (n : ℕ) → pos 0 <ℤ divisor_of n
 divisor_above zero = omega (arith, ints)
 divisor_above (suc n) = omega (arith, ints)
 
@@ -55,7 +55,7 @@ dot_quotients n (z ∷ r) (x ∷ xs) h =
     ∙ (ap (λ y. y *ℤ x +ℤ dot (quotients r (divisor_of n)) xs *ℤ divisor_of n) (exact n z h.0) ∙ ap (λ y. z *ℤ x +ℤ y) (dot_quotients n r xs h.1))
 
 -- the row's value times the divisor is the value of the numbers given
-value_is : (cells : List ℤ) (constant d : ℤ) (xs : List ℤ) → value_times (primitive_of cells constant) d xs *ℤ divisor_of (content_of (constant ∷ cells)) ≡ constant *ℤ d +ℤ dot cells xs
+pub value_is : (cells : List ℤ) (constant d : ℤ) (xs : List ℤ) → value_times (primitive_of cells constant) d xs *ℤ divisor_of (content_of (constant ∷ cells)) ≡ constant *ℤ d +ℤ dot cells xs
 value_is cells constant d xs =
     let n : ℕ = content_of (constant ∷ cells) in
     let h = content_divides 0 (constant ∷ cells) in
