@@ -5,9 +5,9 @@ ghost use Rattle.emp_num.specs.Orders.{IsOrder, IsCountOrder};
 use crate::frac::Frac;
 use std::cmp::Ordering;
 
-/// How a over b stands to c over d, by whole parts and remainders in turn.
+/// How a over b stands to c over d, exactly, by whole parts and remainders in turn.
 #[tactic(auto, using(crate::proofs::Quotients::whole_parts))]
-fn cmp_quotients(a: u128, b: u128, c: u128, d: u128) -> Ordering
+pub fn cmp_quotients(a: u128, b: u128, c: u128, d: u128) -> Ordering
     requires positive_b { 0 < b }
     requires positive_d { 0 < d }
     ensures { IsCountOrder result (a * d) (c * b) }

@@ -1,0 +1,4 @@
+pub mod Dictionary
+pub mod Chosen
+pub mod Dicts
+pub mod Places

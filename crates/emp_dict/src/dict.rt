@@ -1,0 +1,154 @@
+//! A dictionary, its parts, and its pivot.
+ghost use Rattle.std.specs.Prelude.{◌≡◌, ◌≢◌, ◌<◌, ◌≤◌, ◌+◌, pos, length, OnOk, OnErr};
+ghost use Rattle.emp_dict.specs.Dictionary.{IsSound, line_at, cell_at, row_label, column_label, mark_at, row_of, marked};
+ghost use Rattle.emp_dict.specs.declared.label.Label.TheVariants.{Objective};
+
+use crate::label::{Label, Mark};
+use emp_line::line::Line;
+use emp_line::pivot::pivot_lines;
+use emp_list::seq::Seq;
+use emp_num::exact::Wide;
+use std::alloc::{AllocError, Global};
+
+/// Rows that tell the base variables, the quantities and the objective of a row system by those of its columns.
+///
+/// What it stands for is `dictionary_of` in `specs/Dicts.antt`. At its point all columns are 0.
+#[derive(Drop)]
+pub struct Dict {
+    lines: Seq<Line>,
+    rows: Seq<Label>,
+    columns: Seq<Label>,
+    marks: Seq<Mark>,
+    /// Its place is lent to a row while the others change.
+    place: Line,
+    room: u64,
+    pub ghost sound: { IsSound (record { lines = lines; rows = rows; columns = columns; marks = marks }) },
+}
+
+impl Dict {
+    ghost use Rattle.emp_dict.specs.Dicts.{dictionary_of, spare_of, PivotGives};
+
+    /// How many rows there are.
+    pub fn rows(&self) -> usize
+        ensures { result ≡ length (dictionary_of self.now).rows }
+    {
+        self.rows.len()
+    }
+
+    /// How many columns there are: one for each base variable.
+    pub fn columns(&self) -> usize
+        ensures { result ≡ length (dictionary_of self.now).columns }
+    {
+        self.columns.len()
+    }
+
+    /// How many quantities there are. Where there is an objective, its row has this number.
+    pub fn quantities(&self) -> usize
+        ensures { result ≡ length (dictionary_of self.now).marks }
+    {
+        self.marks.len()
+    }
+
+    /// The denominator of a row, which is above 0.
+    pub fn denom(&self, row: usize) -> i128
+        requires { row < length (dictionary_of self.now).rows }
+        ensures { result ≡ (line_at (dictionary_of self.now) row).denom }
+    {
+        self.lines.as_slice()[row].denom
+    }
+
+    /// The constant of a row.
+    pub fn constant(&self, row: usize) -> i128
+        requires { row < length (dictionary_of self.now).rows }
+        ensures { result ≡ (line_at (dictionary_of self.now) row).constant }
+    {
+        self.lines.as_slice()[row].constant
+    }
+
+    /// The cell of a row in a column.
+    pub fn cell(&self, row: usize, column: usize) -> i128
+        requires row { row < length (dictionary_of self.now).rows }
+        requires column { column < length (dictionary_of self.now).columns }
+        ensures { result ≡ cell_at (dictionary_of self.now) row column }
+    {
+        self.lines.as_slice()[row].cells.as_slice()[column]
+    }
+
+    /// What a row tells.
+    pub fn row_label(&self, row: usize) -> Label
+        requires { row < length (dictionary_of self.now).rows }
+        ensures { result ≡ row_label (dictionary_of self.now) row }
+    {
+        self.rows.as_slice()[row]
+    }
+
+    /// What a column stands for.
+    pub fn column_label(&self, column: usize) -> Label
+        requires { column < length (dictionary_of self.now).columns }
+        ensures { result ≡ column_label (dictionary_of self.now) column }
+    {
+        self.columns.as_slice()[column]
+    }
+
+    /// The mark of a quantity, which is numbered from 1.
+    pub fn mark(&self, k: u32) -> Mark
+        requires { (0 < k) × (k ≤ length (dictionary_of self.now).marks) }
+        ensures { result ≡ mark_at (dictionary_of self.now) k }
+    {
+        self.marks.as_slice()[(k - 1) as usize]
+    }
+
+    /// Changes the mark of one quantity, and nothing else.
+    pub fn set_mark(&mut self, k: u32, mark: Mark)
+        requires { (0 < k) × (k ≤ length (dictionary_of self.old).marks) }
+        ensures dictionary { dictionary_of self.new ≡ marked (dictionary_of self.old) k mark }
+        ensures spare { spare_of self.new ≡ spare_of self.old }
+    {
+        self.marks.set((k - 1) as usize, mark);
+    }
+
+    /// The row of a label, and none where the label has a column.
+    #[tactic(auto, using(crate::proofs::Labels::placing))]
+    pub fn row_of(&self, label: Label) -> Option<usize>
+        ensures { result ≡ row_of (dictionary_of self.now) label }
+    {
+        for at in 0..self.rows.len() {
+            if self.rows.as_slice()[at] == label {
+                return Some(at);
+            }
+        }
+        None
+    }
+
+    /// Makes room for one more pivot on any row and column. Nothing else changes, and after a refusal nothing at all.
+    pub fn ready(&mut self) -> Result<(), AllocError>
+        ensures dictionary { dictionary_of self.new ≡ dictionary_of self.old }
+        ensures spare { spare_of self.old ≤ spare_of self.new }
+        ensures ok { OnOk result (0 < spare_of self.new) }
+        ensures err { OnErr result (spare_of self.new ≡ spare_of self.old) }
+    {
+        if self.room == 0 {
+            self.room = 1;
+        }
+        Ok(())
+    }
+
+    /// Exchanges a row with a column. It takes no memory.
+    ///
+    /// `Wide` comes exactly where a formed number has absolute value 2^126 or more. The dictionary is then unchanged.
+    pub fn pivot(&mut self, row: usize, column: usize) -> Result<(), Wide>
+        requires row { row < length (dictionary_of self.old).rows }
+        requires column { column < length (dictionary_of self.old).columns }
+        requires quantity { row_label (dictionary_of self.old) row ≢ Objective }
+        requires nonzero { cell_at (dictionary_of self.old) row column ≢ pos 0 }
+        requires room { 0 < spare_of self.old }
+        ensures { PivotGives row column self.old self.new result }
+    {
+        pivot_lines(&mut self.lines, &mut self.place, row, column)?;
+        let mut label = self.rows.as_slice()[row];
+        self.columns.swap_in(column, &mut label);
+        self.rows.set(row, label);
+        self.room -= 1;
+        Ok(())
+    }
+}
