@@ -1,7 +1,6 @@
 -- What the code of the choice finds.
-use Rattle.std.proofs.Common.{◌≡◌, ◌≢◌, ◌⊎◌, inl, inr, ℕ, zero, suc, ◌+◌, ◌<◌, ℤ, pos, negsuc, neg_ℤ, ◌*ℤ◌, Bool, true, false, ◌&&◌, ◌||◌, length, Option, Some, None, arith, refl, sym, ap, subst, ◌∙◌}
+use Rattle.std.proofs.Common.{◌≡◌, ◌≢◌, ◌⊎◌, inl, inr, ℕ, zero, suc, ◌+◌, ◌<◌, ℤ, pos, negsuc, neg_ℤ, ◌*ℤ◌, Bool, true, false, ◌&&◌, length, Option, Some, None, arith, refl, sym, ap, subst, ◌∙◌}
 use Rattle.std.specs.Prelude.{nat_eq}
-use Rattle.std.specs.Option.{option_map}
 use Rattle.std.proofs.lemmas.Bool.{eqb-true}
 use Rattle.std.proofs.lemmas.Int.{ints}
 use lib.IntN.{*ℤ-zero}
@@ -10,12 +9,11 @@ use Rattle.emp_turns.specs.Choice.{Way, Up, Down, Mark, Free, Unasked, Required,
 use Rattle.emp_turns.specs.Chooses.{Entry as TurnEntry, way_of, is_negative, is_required, first_column, nearest_row, better_row}
 use Rattle.emp_turns.proofs.Chooser.{FirstOf, first_column_is}
 use Rattle.emp_dict.specs.declared.label.Aim.{Aim}
-use Rattle.emp_dict.specs.declared.label.Choice.{Choice}
 use Rattle.emp_dict.specs.declared.label.Choice.TheVariants.{Stop, Exchange, Ray}
 use Rattle.emp_dict.specs.declared.choose.Entry.{Entry}
 use Rattle.emp_dict.specs.Dictionary.{Dictionary, cell_at, row_label, column_label}
-use Rattle.emp_dict.specs.Chosen.{AimFits, aimed_row, aimed_way, aim_stops, turn_aim, layout_of, mark_by_index, way_by, is_up, entering, leaving, chosen, by_entering, by_leaving, index_in}
-use Rattle.emp_dict.specs.Places.{entry_of, freedom_of, is_positive, way_for, opening_at, stopping_at, HasCell, IsColumn}
+use Rattle.emp_dict.specs.Chosen.{aimed_row, aimed_way, aim_stops, turn_aim, layout_of, mark_by_index, way_by, is_up, entering, leaving, chosen, by_entering, by_leaving, index_in}
+use Rattle.emp_dict.specs.Places.{entry_of, freedom_of, is_positive, way_for, opening_at, stopping_at}
 use Rattle.emp_dict.proofs.Labels.{or_cases}
 
 way_is : (m : Mark) (z : ℤ) → z ≢ pos 0 → way_of m z ≡ way_for (freedom_of m) (is_positive z)

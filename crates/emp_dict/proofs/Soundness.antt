@@ -1,19 +1,40 @@
 -- An exchange keeps what every dictionary keeps.
-use Rattle.std.proofs.Common.{◌≡◌, ◌≢◌, ◌⊎◌, inl, inr, ℕ, zero, suc, ◌+◌, ◌-◌, ◌<◌, ◌≤◌, ℤ, pos, Bool, true, false, cond, ◌||◌, List, [], ◌∷◌, length, set, get_or, Option, Some, None, arith, refl, sym, ap, ap₂, subst, ◌∙◌, length-set, get_or-set_same}
+use Rattle.std.proofs.Common.{◌≡◌, ◌≢◌, ◌⊎◌, inl, inr, ℕ, ◌-◌, ◌<◌, pos, true, ◌||◌, List, length, set, Some, arith, sym, ap, ap₂, subst, ◌∙◌, length-set, get_or-set_same}
 use Rattle.std.specs.List.{All}
 use Rattle.std.proofs.lemmas.Bool.{cases_eq}
 use Rattle.std.proofs.lemmas.List.{get_or-set_other}
-use Rattle.emp_algebra.specs.Vector.{cell}
 use Rattle.emp_line.specs.declared.line.Line.{Line}
 use Rattle.emp_line.specs.Pivot.{no_line, turned, pivoted}
 use Rattle.emp_line.specs.Lines.{IsLine}
 use Rattle.emp_line.proofs.Sound.{turned_sound}
 use Rattle.emp_line.proofs.Kept.{pivoted_from_sound}
 use Rattle.emp_dict.specs.declared.label.Label.{Label}
-use Rattle.emp_dict.specs.declared.label.Label.TheVariants.{Base, Quantity, Objective}
-use Rattle.emp_dict.specs.Dictionary.{Dictionary, IsSound, IsLabel, is_label, stands, line_at, cell_at, row_label, column_label}
-use Rattle.emp_dict.proofs.Labels.{Place, stands_place, place_stands, or_cases, or_first, or_second}
+use Rattle.emp_dict.specs.declared.label.Label.TheVariants.{Objective}
+use Rattle.emp_dict.specs.declared.label.Mark.{Mark}
+use Rattle.emp_dict.specs.Dictionary.{Dictionary, IsSound, IsLabel, is_label, marked, stands, line_at, cell_at, row_label, column_label}
+use Rattle.emp_dict.proofs.Labels.{stands_place, place_stands, or_cases, or_first, or_second}
 
+-- ---- a mark
+pub marked_sound : (d : Dictionary) (k : ℕ) (m : Mark) → IsSound d → IsSound (marked d k m)
+marked_sound d k m s =
+    let e : length (set d.marks (k - 1) m) ≡ length d.marks = length-set d.marks (k - 1) m in
+    record {
+      lines = s.lines;
+      count = s.count;
+      quantities = omega (arith, e, s.quantities);
+      one_objective = omega (arith, e, s.one_objective);
+      objective = λ h. ap (row_label d) e ∙ s.objective (omega (arith, e));
+      row_labels = λ i h. ap (λ n. is_label (length d.columns) n (length d.rows) (row_label d i)) e ∙ s.row_labels i h;
+      column_labels = λ j h. ap (λ n. is_label (length d.columns) n (length d.rows) (column_label d j)) e ∙ s.column_labels j h;
+      rows_once = s.rows_once;
+      columns_once = s.columns_once;
+      apart = s.apart;
+      complete = λ w h. s.complete w (sym (ap (λ n. is_label (length d.columns) n (length d.rows) w) e) ∙ h);
+      few_bases = s.few_bases;
+      few_quantities = omega (arith, e, s.few_quantities);
+    }
+
+-- ---- an exchange
 module _ (d : Dictionary) (r j : ℕ) (ls : List Line) (s : IsSound d) (row_in : r < length d.rows) (column_in : j < length d.columns) (quantity : row_label d r ≢ Objective) (nonzero : cell_at d r j ≢ pos 0) (e : pivoted d.lines r j ≡ Some ls) where
   abbrev u : Dictionary
   u = record { lines = ls; rows = set d.rows r (column_label d j); columns = set d.columns j (row_label d r); marks = d.marks }

@@ -1,5 +1,5 @@
 -- What a value of the type Dict stands for, and what its calls make of it.
-use Rattle.std.specs.Prelude.{◌≡◌, ℕ, ◌+◌, Option, Some, None, Result, Ok, Err}
+use Rattle.std.specs.Prelude.{◌≡◌, ℕ, ◌+◌, Some, None, Result, Ok, Err}
 use Rattle.emp_num.specs.declared.exact.Wide.{Wide}
 use Rattle.emp_dict.specs.declared.dict.Dict.{Dict}
 use Rattle.emp_dict.specs.Dictionary.{Dictionary, exchanged}

@@ -1,4 +1,5 @@
 pub mod Dictionary
 pub mod Chosen
+pub mod Laws
 pub mod Dicts
 pub mod Places

@@ -1,7 +1,6 @@
 -- What the code of the choice keeps.
-use Rattle.std.specs.Prelude.{◌≡◌, ◌≢◌, ℕ, zero, suc, ◌<◌, ℤ, pos, negsuc, ◌*ℤ◌, Bool, true, false, length, Option, Some, None}
-use Rattle.std.specs.Option.{option_map}
-use Rattle.emp_turns.specs.Choice.{Way, Mark, Free, Unasked, Required, Fixed, toward}
+use Rattle.std.specs.Prelude.{◌≢◌, ℕ, zero, suc, ◌<◌, ℤ, pos, negsuc, Bool, true, false, length, Option, Some, None}
+use Rattle.emp_turns.specs.Choice.{Way, Mark, Free, Unasked, Required, Fixed}
 use Rattle.emp_turns.specs.Chooses.{Entry as TurnEntry, opening, stopping}
 use Rattle.emp_dict.specs.declared.label.Aim.{Aim}
 use Rattle.emp_dict.specs.declared.choose.Entry.{Entry}

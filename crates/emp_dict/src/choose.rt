@@ -59,13 +59,7 @@ fn way_for(freedom: Freedom, up: bool) -> Option<bool>
 {
     match freedom {
         Freedom::Both => Some(up),
-        Freedom::Upward => {
-            if up {
-                Some(true)
-            } else {
-                None
-            }
-        }
+        Freedom::Upward => { if up { Some(true) } else { None } }
         Freedom::Still => None,
     }
 }

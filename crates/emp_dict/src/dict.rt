@@ -1,14 +1,16 @@
 //! A dictionary, its parts, and its pivot.
-ghost use Rattle.std.specs.Prelude.{◌≡◌, ◌≢◌, ◌<◌, ◌≤◌, ◌+◌, pos, length, OnOk, OnErr};
+ghost use Rattle.std.specs.Prelude.{◌≡◌, ◌≢◌, ◌<◌, ◌≤◌, ◌+◌, pos, length, OnOk, OnErr, IfOk};
 ghost use Rattle.emp_dict.specs.Dictionary.{IsSound, line_at, cell_at, row_label, column_label, mark_at, row_of, marked};
 ghost use Rattle.emp_dict.specs.declared.label.Label.TheVariants.{Objective};
 
+use crate::copying::copy_lines;
 use crate::label::{Label, Mark};
 use emp_line::line::Line;
 use emp_line::pivot::pivot_lines;
+use emp_list::memory::NoMemory;
 use emp_list::seq::Seq;
 use emp_num::exact::Wide;
-use std::alloc::{AllocError, Global};
+use std::alloc::Global;
 
 /// Rows that tell the base variables, the quantities and the objective of a row system by those of its columns.
 ///
@@ -27,6 +29,25 @@ pub struct Dict {
 
 impl Dict {
     ghost use Rattle.emp_dict.specs.Dicts.{dictionary_of, spare_of, PivotGives};
+
+    /// An equal dictionary. It leaves this one alone.
+    pub fn copy(&self, alloc: Global) -> Result<Dict, NoMemory>
+        ensures dictionary { IfOk result (λ copy. dictionary_of copy ≡ dictionary_of self.now) }
+        ensures spare { IfOk result (λ copy. spare_of copy ≡ spare_of self.now) }
+    {
+        Ok(Dict {
+            lines: copy_lines(alloc, self.lines.as_slice())?,
+            rows: self.rows.copy(alloc)?,
+            columns: self.columns.copy(alloc)?,
+            marks: self.marks.copy(alloc)?,
+            place: Line {
+                denom: 1,
+                constant: 0,
+                cells: Seq::new(alloc),
+            },
+            room: self.room,
+        })
+    }
 
     /// How many rows there are.
     pub fn rows(&self) -> usize
@@ -121,7 +142,7 @@ impl Dict {
     }
 
     /// Makes room for one more pivot on any row and column. Nothing else changes, and after a refusal nothing at all.
-    pub fn ready(&mut self) -> Result<(), AllocError>
+    pub fn ready(&mut self) -> Result<(), NoMemory>
         ensures dictionary { dictionary_of self.new ≡ dictionary_of self.old }
         ensures spare { spare_of self.old ≤ spare_of self.new }
         ensures ok { OnOk result (0 < spare_of self.new) }

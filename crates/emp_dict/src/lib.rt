@@ -2,5 +2,8 @@
 #![tactic(auto)]
 
 pub mod choose;
+pub mod copying;
 pub mod dict;
 pub mod label;
+pub mod laws;
+pub mod start;

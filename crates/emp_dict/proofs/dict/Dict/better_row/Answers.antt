@@ -1,4 +1,4 @@
-use Rattle.std.proofs.Common.{◌≡◌, sym, ap, ◌∙◌}
+use Rattle.std.proofs.Common.{sym, ◌∙◌}
 use Rattle.emp_dict.specs.Dicts.{dictionary_of}
 use Rattle.emp_dict.specs.Chosen.{way_by}
 use Rattle.emp_dict.proofs.Choosing.{stopping_cell}

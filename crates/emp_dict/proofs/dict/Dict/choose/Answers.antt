@@ -1,7 +1,6 @@
-use Rattle.std.proofs.Common.{◌≡◌, Some, sym, ap, ◌∙◌}
+use Rattle.std.proofs.Common.{sym, ap, ◌∙◌}
 use Rattle.std.specs.Option.{option_map}
 use Rattle.emp_dict.specs.Dicts.{dictionary_of}
-use Rattle.emp_dict.specs.Chosen.{way_by, entering}
 use Rattle.emp_dict.specs.Places.{entry_of}
 use Rattle.emp_dict.proofs.Choosing.{entering_opens}
 use Rattle.emp_dict.proofs.dict.Dict.choose.Goals as goal

@@ -1,4 +1,4 @@
-use Rattle.std.proofs.Common.{◌≡◌, ap, ◌∙◌}
+use Rattle.std.proofs.Common.{ap, ◌∙◌}
 use Rattle.emp_turns.specs.Chooses.{better_row}
 use Rattle.emp_dict.specs.Dicts.{dictionary_of}
 use Rattle.emp_dict.specs.Chosen.{layout_of, way_by}

@@ -1,4 +1,4 @@
-use Rattle.std.proofs.Common.{rules, ◌≡◌, set, get_or, ap, sym, subst₂, ◌∙◌}
+use Rattle.std.proofs.Common.{◌≡◌, set, get_or, ap, sym, subst₂, ◌∙◌}
 use Rattle.std.proofs.lemmas.List.{get_or_read}
 use Rattle.emp_dict.specs.declared.label.Label.TheVariants.{Objective}
 use Rattle.emp_dict.specs.Dictionary.{IsSound}
