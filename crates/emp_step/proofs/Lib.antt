@@ -1,0 +1,12 @@
+pub mod Given
+pub mod Labels
+pub mod Marks
+pub mod Repeats
+pub mod Looks
+pub mod After
+pub mod Feasible
+pub mod Kept
+pub mod Turns
+pub mod Ends
+pub mod Bounds
+pub mod Whole

@@ -1,0 +1,5 @@
+use Rattle.emp_step.proofs.Whole as Whole
+use Rattle.emp_step.proofs.laws.steps_keep.Goals as goal
+
+pub returns : goal.returns
+returns c = Whole.steps_keep

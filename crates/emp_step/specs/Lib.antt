@@ -1,0 +1,4 @@
+pub mod Steps
+pub mod Levels
+pub mod Laws
+pub mod Example
