@@ -1,5 +1,5 @@
 -- The start: each label has one place, and each row tells its quantity.
-use Rattle.std.proofs.Common.{◌≡◌, ◌≢◌, ◌⊎◌, inl, inr, ℕ, zero, suc, ◌+◌, ◌-◌, ◌<◌, ◌≤◌, ℤ, pos, ◌+ℤ◌, ◌*ℤ◌, Bool, true, false, ◌&&◌, ◌||◌, List, [], ◌∷◌, ◌++◌, length, map, get_or, Option, Some, None, arith, refl, sym, ap, ap₂, subst, ◌∙◌, length-append, add-zero}
+use Rattle.std.proofs.Common.{◌≡◌, ◌≢◌, ◌⊎◌, inl, inr, ℕ, zero, suc, ◌+◌, ◌-◌, ◌<◌, ◌≤◌, ℤ, pos, ◌+ℤ◌, ◌*ℤ◌, Bool, true, false, ◌&&◌, ◌||◌, List, [], ◌∷◌, ◌++◌, length, map, replicate, get_or, Option, Some, None, arith, refl, sym, ap, ap₂, subst, ◌∙◌, length-append, add-zero}
 use Rattle.std.specs.Prelude.{nat_lt, nat_le}
 use Rattle.std.specs.List.{All}
 use Rattle.std.proofs.lemmas.Bool.{lt-ltb, le-leb, ltb-true, ltb-false, leb-true}
@@ -13,8 +13,11 @@ use Rattle.emp_line.specs.Pivot.{no_line}
 use Rattle.emp_line.specs.Lines.{IsLine}
 use Rattle.emp_rows.specs.declared.affine.Affine.{Affine}
 use Rattle.emp_rows.specs.Affine.{IsRow}
+use Rattle.emp_rows.specs.Systems.{IsSystem}
+use Rattle.emp_rows.specs.declared.system.Kind.{Kind}
 use Rattle.emp_dict.specs.declared.label.Label.{Label}
 use Rattle.emp_dict.specs.declared.label.Label.TheVariants.{Base, Quantity, Objective}
+use Rattle.emp_dict.specs.declared.label.Mark.{Mark}
 use Rattle.emp_dict.specs.declared.label.Mark.TheVariants.{Unasked}
 use Rattle.emp_dict.specs.Dictionary.{Dictionary, IsSound, IsLabel, is_label, stands, row_label, column_label, line_at, bases_from, quantities_from, line_of, objective_lines, objective_labels, started, no_affine, affine_value, objective_value, label_value, RowsTrue}
 use Rattle.emp_dict.specs.Laws.{StartsAre}
@@ -262,3 +265,12 @@ starts_tell base qs o few_bases few_quantities rows objective = record {
   forth = λ s xs e. start_tells base qs o s xs e;
   back = λ s f h w k. start_told base qs o s f h w k;
 }
+
+-- a dictionary of the parts at the start
+pub parts_sound : (base : ℕ) (qs : List Affine) (kinds : List Kind) (pairs : List (ℕ × ℕ)) (o : Option Affine) (n : ℕ) (slice : List Affine) (lines : List Line) (rows columns : List Label) (marks : List Mark) → IsSystem base qs kinds pairs o → slice ≡ qs → n ≡ length qs → lines ≡ map line_of slice ++ objective_lines o → rows ≡ quantities_from 1 n ++ objective_labels o → columns ≡ bases_from 1 base → marks ≡ replicate n Unasked → IsSound (record { lines = lines; rows = rows; columns = columns; marks = marks })
+parts_sound base qs kinds pairs o n slice lines rows columns marks h es en el er ec em =
+    let a : lines ≡ map line_of qs ++ objective_lines o = el ∙ ap (λ xs. map line_of xs ++ objective_lines o) es in
+    let b : rows ≡ quantities_from 1 (length qs) ++ objective_labels o = er ∙ ap (λ k. quantities_from 1 k ++ objective_labels o) en in
+    let c : marks ≡ replicate (length qs) Unasked = em ∙ ap (λ k. replicate k Unasked) en in
+    let q : started base qs o ≡ record { lines = lines; rows = rows; columns = columns; marks = marks } = λ i. record { lines = sym a i; rows = sym b i; columns = sym ec i; marks = sym c i } in
+    subst IsSound q (start_sound base qs o h.few_variables h.few_quantities h.rows h.objective_row)

@@ -1,15 +1,17 @@
 //! A dictionary, its parts, and its pivot.
 ghost use Rattle.std.specs.Prelude.{◌≡◌, ◌≢◌, ◌<◌, ◌≤◌, ◌+◌, pos, length, OnOk, OnErr, IfOk};
-ghost use Rattle.emp_dict.specs.Dictionary.{IsSound, line_at, cell_at, row_label, column_label, mark_at, row_of, marked};
+ghost use Rattle.emp_dict.specs.Dictionary.{IsSound, line_at, cell_at, row_label, column_label, mark_at, row_of, marked, started};
 ghost use Rattle.emp_dict.specs.declared.label.Label.TheVariants.{Objective};
 
 use crate::copying::copy_lines;
 use crate::label::{Label, Mark};
+use crate::start::{bases, start_labels, start_lines, unasked};
 use emp_line::line::Line;
 use emp_line::pivot::pivot_lines;
 use emp_list::memory::NoMemory;
 use emp_list::seq::Seq;
 use emp_num::exact::Wide;
+use emp_rows::system::RowSystem;
 use std::alloc::Global;
 
 /// Rows that tell the base variables, the quantities and the objective of a row system by those of its columns.
@@ -29,6 +31,27 @@ pub struct Dict {
 
 impl Dict {
     ghost use Rattle.emp_dict.specs.Dicts.{dictionary_of, spare_of, PivotGives};
+
+    /// The dictionary of a row system at the start: a row for each quantity, and a last one for the objective where there is one. The columns
+    /// are the base variables, and nothing is asked of any quantity.
+    pub fn start(alloc: Global, system: &RowSystem) -> Result<Dict, NoMemory>
+        ensures dictionary { IfOk result (λ d. dictionary_of d ≡ started system.now.base system.now.quantities system.now.objective) }
+        ensures spare { IfOk result (λ d. spare_of d ≡ 0) }
+    {
+        let count = system.quantities.len();
+        Ok(Dict {
+            lines: start_lines(alloc, system.quantities.as_slice(), &system.objective)?,
+            rows: start_labels(alloc, count, &system.objective)?,
+            columns: bases(alloc, system.base as usize)?,
+            marks: unasked(alloc, count)?,
+            place: Line {
+                denom: 1,
+                constant: 0,
+                cells: Seq::new(alloc),
+            },
+            room: 0,
+        })
+    }
 
     /// An equal dictionary. It leaves this one alone.
     pub fn copy(&self, alloc: Global) -> Result<Dict, NoMemory>
