@@ -1,0 +1,5 @@
+use Rattle.emp_game.proofs.Sound as Sound
+use Rattle.emp_game.proofs.laws.multipliers_solve.Goals as goal
+
+pub returns : goal.returns
+returns c = Sound.multipliers_solve

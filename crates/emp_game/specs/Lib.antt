@@ -1,0 +1,4 @@
+pub mod Game
+pub mod Solved
+pub mod Conditions
+pub mod Laws
