@@ -86,8 +86,8 @@ impl Dict {
         }
     }
 
-    /// The place of a label in the order of labels.
-    fn index(&self, label: Label) -> usize
+    /// The place of a label in the order of labels, which `index` of `specs/Chosen.antt` says: base variables first, then quantities, then the objective.
+    pub fn index(&self, label: Label) -> usize
         requires { IsLabel (length (dictionary_of self.now).columns) (length (dictionary_of self.now).marks) (length (dictionary_of self.now).rows) label }
         ensures { result ≡ index_in (dictionary_of self.now) label }
     {
