@@ -18,3 +18,4 @@ pub mod Holding
 pub mod Points
 pub mod Joint
 pub mod Multiples
+pub mod Pairs

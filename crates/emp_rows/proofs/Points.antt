@@ -139,10 +139,10 @@ over_negative v X d p h e = go (le_or_lt (pos 0) X)
     go (inr k) = k
 
 -- ---- the other way
-product_zero : (v : Ratio) (X d : ℤ) → pos 0 <ℤ d → IsOver v X d → X ≡ pos 0 → v.top ≡ pos 0
+pub product_zero : (v : Ratio) (X d : ℤ) → pos 0 <ℤ d → IsOver v X d → X ≡ pos 0 → v.top ≡ pos 0
 product_zero v X d p h e = cancel_right v.top (pos 0) d (h.same ∙ (ap (λ z. z *ℤ v.bottom) e ∙ (no_product v.bottom ∙ sym (no_product d)))) p
 
-product_nonneg : (v : Ratio) (X d : ℤ) → pos 0 <ℤ d → IsOver v X d → pos 0 ≤ℤ X → pos 0 ≤ℤ v.top
+pub product_nonneg : (v : Ratio) (X d : ℤ) → pos 0 <ℤ d → IsOver v X d → pos 0 ≤ℤ X → pos 0 ≤ℤ v.top
 product_nonneg v X d p h e = go (le_or_lt (pos 0) v.top)
   where
     go : (pos 0 ≤ℤ v.top) ⊎ (v.top <ℤ pos 0) → pos 0 ≤ℤ v.top

@@ -4,7 +4,6 @@ use Prim.Native.Nat.{◌∣◌}
 use native.Mathlib.Nat.{pos_of_dvd_of_pos}
 use Rattle.std.specs.List.{All}
 use Rattle.std.proofs.lemmas.Int.{ints}
-use Rattle.std.proofs.Math.Nat.{div-le_self}
 use Rattle.std.proofs.lemmas.Nat.Gcd.{dvd_refl, dvd_trans, le_of_dvd}
 use Rattle.std.proofs.lemmas.List.Elements.{All-nil, All-cons, All-head, All-tail, All-set, All-get_or}
 use Rattle.emp_algebra.specs.Vector.{cell, scale, add_rows}
@@ -12,14 +11,13 @@ use Rattle.emp_algebra.proofs.Laws.{mul_pos, one-*ℤ, neg_ℤ-*ℤ}
 use Rattle.emp_algebra.proofs.Vectors.{length-scale}
 use Rattle.emp_num.specs.Exact.{IsNarrow}
 use Rattle.emp_num.specs.Gcd.{gcd_of, content_from, content_of}
-use Rattle.emp_num.proofs.Gcds.{quot_exact, positive_from_product}
 use Rattle.emp_num.proofs.Divisors.{IsGcd-gcd_of, gcd_of_zero}
 use Rattle.emp_rows.specs.declared.line.Line.{Line}
 use Rattle.emp_rows.specs.Quotients.{quotients}
 use Rattle.emp_rows.specs.Pivot.{sign, is_wide, line_content, reduced, turned, Factors, factors, combined, step_wide, steps_wide, combination_wide}
 use Rattle.emp_rows.specs.Steps.{IsLine}
 use Rattle.emp_rows.proofs.Steps.{narrow_from, or_left, or_right}
-use Rattle.emp_rows.proofs.Quotients.{gcd_positive, gcd_narrow, quotient_small, quotient_narrow, quotient_positive}
+use Rattle.emp_rows.proofs.Quotients.{gcd_positive, quotient_narrow, quotient_positive}
 
 -- ---- contents
 pub content_from-divides : (g : ℕ) (zs : List ℤ) → content_from g zs ∣ g

@@ -1,0 +1,17 @@
+pub mod Passing
+pub mod Keeping
+pub mod Sums
+pub mod Steps
+pub mod Leaves
+pub mod Heads
+pub mod Links
+pub mod Trails
+pub mod Bounds
+pub mod Trees
+pub mod Forests
+pub mod Rays
+pub mod Shown
+pub mod Complete
+pub mod Room
+pub mod Walks
+pub mod Verdicts
