@@ -1,5 +1,1 @@
-pub mod ExampleLaws
-pub mod ExampleAgents
-pub mod ExampleSharing
-pub mod ExampleSigns
 pub mod Finding

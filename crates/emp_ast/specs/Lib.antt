@@ -1,7 +1,15 @@
-pub mod Blocks
-pub mod Examples
+-- What the headline rests on
 pub mod Expression
-pub mod Meets
-pub mod Names
-pub mod Solved
 pub mod Value
+pub mod Meets
+pub mod Occurrence
+pub mod Parties
+pub mod Rivals
+pub mod Solved
+pub mod Multipliers
+pub mod Equilibrium
+pub mod Bilevel
+pub mod Convex
+pub mod Names
+-- What only helps proofs
+pub mod Nodes

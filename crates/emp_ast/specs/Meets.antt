@@ -8,7 +8,7 @@ use Rattle.emp_ast.specs.declared.model.Equation.{Equation}
 use Rattle.emp_ast.specs.declared.model.End.{End}
 use Rattle.emp_ast.specs.declared.model.End.TheVariants.{Open, At}
 use Rattle.emp_ast.specs.declared.model.Variable.{Variable}
-use Rattle.emp_ast.specs.Value.{value}
+use Rattle.emp_ast.specs.Value.{tree_value}
 
 -- both values are there and so related
 abbrev pub IfBoth : (Ratio → Ratio → Type 0) → Option Ratio → Option Ratio → Type 0
@@ -17,14 +17,15 @@ IfBoth R (Some x) None = ⊥
 IfBoth R None y = ⊥
 
 -- the two values stand in the relation; nothing is asked by `=N=`
-abbrev pub Stands : Relation → Option Ratio → Option Ratio → Type 0
-Stands Equal left right = IfBoth SameRatio left right
-Stands AtLeast left right = IfBoth AtMostRatio right left
-Stands AtMost left right = IfBoth AtMostRatio left right
-Stands Nothing left right = Unit {0}
+abbrev pub AreRelated : Relation → Option Ratio → Option Ratio → Type 0
+AreRelated Equal left right = IfBoth SameRatio left right
+AreRelated AtLeast left right = IfBoth AtMostRatio right left
+AreRelated AtMost left right = IfBoth AtMostRatio left right
+AreRelated Nothing left right = Unit {0}
 
+-- both sides have values that stand in the equation's relation; every point meets an `=N=` equation
 abbrev pub MeetsEquation : Point → Equation → Type 0
-MeetsEquation p e = Stands e.relation (value p e.left) (value p e.right)
+MeetsEquation p e = AreRelated e.relation (tree_value p e.left) (tree_value p e.right)
 
 abbrev pub IsAbove : Ratio → End → Type 0
 IsAbove x Open = Unit {0}

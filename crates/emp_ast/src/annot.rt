@@ -3,7 +3,7 @@ use crate::model::Sense;
 use crate::tree::{EquId, VarId};
 use emp_list::seq::Seq;
 
-/// A block of an annotation.
+/// A block of an annotation. What its own variables, equations and constraints are stands in `specs/Parties.antt`.
 #[derive(Drop)]
 pub enum Block {
     /// `min` or `max`: an agent with its objective variable, its further variables and its equations.
@@ -32,4 +32,7 @@ pub struct Annot {
     pub duals: Seq<(VarId, EquId)>,
     /// The equations with one multiplier for all blocks.
     pub visols: Seq<EquId>,
+    /// The implicit variables, each with the equation that ties it. Each block that lists the variable owns it and has the
+    /// equation as a constraint of its own.
+    pub implicits: Seq<(VarId, EquId)>,
 }

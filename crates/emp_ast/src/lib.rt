@@ -5,6 +5,5 @@
 #![tactic(auto)]
 
 pub mod annot;
-pub mod laws;
 pub mod model;
 pub mod tree;

@@ -1,4 +1,7 @@
 //! Expressions as lists of nodes in postorder.
+ghost use Rattle.std.specs.Prelude.{◌≡◌, true, length};
+ghost use Rattle.emp_ast.specs.Expression.{is_postorder};
+
 use emp_list::seq::Seq;
 use emp_num::frac::Frac;
 
@@ -43,9 +46,15 @@ pub enum Node {
     Power(u32, u8),
 }
 
-/// An expression: its nodes in postorder, the root last, with the place of each. The meaning reads no place.
+/// An expression: its nodes in postorder, the root last, with the place of each in its text.
+///
+/// The nodes are those of one expression: each takes as its operands the last roots that no node before it took, and one
+/// root is left at the end (`is_postorder`). What the expression is stands in `specs/Expression.antt`; no meaning reads
+/// a place.
 #[derive(Drop)]
 pub struct Tree {
     pub nodes: Seq<Node>,
     pub places: Seq<Place>,
+    pub ghost whole: { is_postorder nodes ≡ true },
+    pub ghost placed: { length places ≡ length nodes },
 }

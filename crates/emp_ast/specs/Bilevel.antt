@@ -1,0 +1,42 @@
+-- Bilevel files: points that are admissible, best points, and rays along which the leader gains without end.
+use Rattle.std.specs.Prelude.{◌≡◌, ℕ, ◌+◌, ◌<◌, pos, false, length, Some}
+use Rattle.emp_num.specs.Ratio.{ratio, plus, times, SameRatio}
+use Rattle.emp_num.specs.Point.{Point, coordinate}
+use Rattle.emp_ast.specs.declared.model.Sense.{Sense}
+use Rattle.emp_ast.specs.declared.model.Model.{Model}
+use Rattle.emp_ast.specs.declared.annot.Annot.{Annot}
+use Rattle.emp_ast.specs.Meets.{MeetsEquation}
+use Rattle.emp_ast.specs.Parties.{leader, block, objective, is_defined, EachDefinition}
+use Rattle.emp_ast.specs.Rivals.{Fits, IsFeasible}
+use Rattle.emp_ast.specs.Solved.{IsBetter}
+use Rattle.emp_ast.specs.Equilibrium.{IsEquilibrium}
+
+-- the point meets the leader's equations and the bounds of the leader's variables, and is an equilibrium of the blocks
+pub record IsAdmissible (m : Model) (a : Annot) (p : Point) : Type 0 where
+  pub leads : IsFeasible m a leader p
+  pub follows : IsEquilibrium m a p
+
+-- p has a better coordinate of the leader's objective variable than q
+abbrev pub IsBetterForLeader : Model → Annot → Point → Point → Type 0
+IsBetterForLeader m a p q = (s : Sense) (w : ℕ) → objective m a leader ≡ Some (s, w) → IsBetter s (coordinate p w) (coordinate q w)
+
+-- admissible, and no admissible point is better for the leader
+pub record IsBest (m : Model) (a : Annot) (p : Point) : Type 0 where
+  pub admissible : IsAdmissible m a p
+  pub best : (q : Point) → IsAdmissible m a q → IsBetterForLeader m a q p → ⊥
+
+-- ---- rays
+-- q is the point after t steps from p: p + t v on the variables that no equation defines, and on the others what their
+-- definitions give
+pub record IsAfterSteps (m : Model) (a : Annot) (p v : Point) (t : ℕ) (q : Point) : Type 0 where
+  pub fits : Fits m q
+  pub moved : (x : ℕ) → x < length m.variables → is_defined m a x ≡ false → SameRatio (coordinate q x) (plus (coordinate p x) (times (ratio (pos t) (pos 1)) (coordinate v x)))
+  pub leader_given : EachDefinition m a leader (λ e q'. MeetsEquation q q')
+  pub given : (k : ℕ) → k < length a.blocks → EachDefinition m a (block k) (λ e q'. MeetsEquation q q')
+
+-- p is admissible, so is the point after each number of steps, and the leader's objective improves at each step
+pub record IsRay (m : Model) (a : Annot) (p v : Point) : Type 0 where
+  pub start : IsAdmissible m a p
+  pub after : (t : ℕ) → (q : Point) × IsAfterSteps m a p v t q
+  pub admissible : (t : ℕ) (q : Point) → IsAfterSteps m a p v t q → IsAdmissible m a q
+  pub improves : (t : ℕ) (q r : Point) → IsAfterSteps m a p v t q → IsAfterSteps m a p v (t + 1) r → IsBetterForLeader m a r q
