@@ -1,5 +1,5 @@
 -- Bilevel files: points that are admissible, best points, and rays along which the leader gains without end.
-use Rattle.std.specs.Prelude.{◌≡◌, ℕ, ◌+◌, ◌<◌, pos, false, length, Some}
+use Rattle.std.specs.Prelude.{◌≡◌, ℕ, ◌+◌, ◌<◌, pos, false, length, Option, Some, None}
 use Rattle.emp_num.specs.Ratio.{ratio, plus, times, SameRatio}
 use Rattle.emp_num.specs.Point.{Point, coordinate}
 use Rattle.emp_ast.specs.declared.model.Sense.{Sense}
@@ -16,9 +16,14 @@ pub record IsAdmissible (m : Model) (a : Annot) (p : Point) : Type 0 where
   pub leads : IsFeasible m a leader p
   pub follows : IsEquilibrium m a p
 
--- p has a better coordinate of the leader's objective variable than q
+-- p has a better coordinate of the objective variable than q; where there is no objective, no point is better
+abbrev pub IsBetterBy : Option (Sense × ℕ) → Point → Point → Type 0
+IsBetterBy (Some w) p q = IsBetter w.0 (coordinate p w.1) (coordinate q w.1)
+IsBetterBy None p q = ⊥
+
+-- p is better than q for the leader
 abbrev pub IsBetterForLeader : Model → Annot → Point → Point → Type 0
-IsBetterForLeader m a p q = (s : Sense) (w : ℕ) → objective m a leader ≡ Some (s, w) → IsBetter s (coordinate p w) (coordinate q w)
+IsBetterForLeader m a p q = IsBetterBy (objective m a leader) p q
 
 -- admissible, and no admissible point is better for the leader
 pub record IsBest (m : Model) (a : Annot) (p : Point) : Type 0 where

@@ -5,5 +5,6 @@
 #![tactic(auto)]
 
 pub mod annot;
+pub mod laws;
 pub mod model;
 pub mod tree;
