@@ -7,3 +7,4 @@ pub mod TokenBytes
 pub mod LongestToken
 pub mod Trims
 pub mod Lexing
+pub mod WordLists

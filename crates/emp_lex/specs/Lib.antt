@@ -4,3 +4,4 @@ pub mod Forms
 pub mod Laws
 pub mod Pieces
 pub mod Tokens
+pub mod Words

@@ -1,6 +1,6 @@
 //! The tokens of a text.
 ghost use Rattle.std.specs.Prelude.{◌≡◌, ◌+◌, ◌<◌, ◌≤◌, length, MatchResult};
-ghost use Rattle.emp_lex.specs.Tokens.{past_byte, past, fault_at, Tells, IsTooWide, IsTokenList, Refuses};
+ghost use Rattle.emp_lex.specs.Tokens.{past_byte, past, start, fault_at, Tells, IsTooWide, IsTokenList, Refuses};
 
 use crate::fault::LexFault;
 use crate::piece::{Defect, Step, next_step};
@@ -41,6 +41,14 @@ pub fn past(place: Place, bytes: &[u8]) -> Place
         place = past_byte(place, *b);
     }
     place
+}
+
+/// The place behind the last byte of a text.
+pub fn end_of(text: &[u8]) -> Place
+    requires { length text.now < 4294967295 }
+    ensures { result ≡ past start text.now }
+{
+    past(Place { line: 1, column: 1 }, text)
 }
 
 fn fault_at(defect: Defect, place: Place) -> LexFault

@@ -12,3 +12,4 @@ pub mod scan;
 #[cfg(test)]
 mod tests;
 pub mod token;
+pub mod word;

@@ -1,4 +1,6 @@
 //! Tokens.
+ghost use Rattle.std.specs.Prelude.{◌≡◌, slice_range};
+
 use emp_ast::tree::Place;
 
 #[derive(Clone, Copy, Debug, PartialEq, Eq)]
@@ -17,4 +19,17 @@ pub struct Token {
     pub from: u32,
     pub to: u32,
     pub place: Place,
+}
+
+/// The bytes of a text from `from` up to and without `to`.
+pub fn part(text: &[u8], from: u32, to: u32) -> &[u8]
+    ensures { result.now ≡ slice_range text.now from to }
+{
+    let from = from as usize;
+    let to = (to as usize).min(text.len());
+    if from < to {
+        &text[from..to]
+    } else {
+        &text[..0]
+    }
 }

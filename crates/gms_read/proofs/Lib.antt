@@ -14,5 +14,4 @@ pub mod Reading
 pub mod Sorts
 pub mod Stacks
 pub mod Tables
-pub mod WordLists
 pub mod Writing

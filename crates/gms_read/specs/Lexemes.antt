@@ -1,5 +1,5 @@
 -- What the tokens of a text are to the grammar. Keywords are no names; letters are compared without case.
-use Rattle.std.specs.Prelude.{◌≡◌, ℕ, cond, List, [], ◌∷◌, codes, bytes_eq, Ok, slice_range}
+use Rattle.std.specs.Prelude.{◌≡◌, ℕ, List, [], ◌∷◌, codes, Ok, slice_range}
 use Rattle.emp_num.specs.declared.frac.Frac.{Frac}
 use Rattle.emp_num.specs.Numeral.{NumeralGives}
 use Rattle.emp_list.specs.Case.{lower}
@@ -8,6 +8,7 @@ use Rattle.emp_ast.specs.declared.model.Relation.TheVariants.{Equal, AtLeast, At
 use Rattle.emp_lex.specs.declared.token.Token.{Token}
 use Rattle.emp_lex.specs.declared.token.TokenKind.{TokenKind}
 use Rattle.emp_lex.specs.declared.token.TokenKind.TheVariants.{Name as IsName, Numeral as IsNumeral, Text as IsText, Relation as IsRelation, Symbol as IsSymbol}
+pub use Rattle.emp_lex.specs.Words.{of_words}
 use Rattle.gms_read.specs.declared.lexeme.Word.{Word}
 use Rattle.gms_read.specs.declared.lexeme.Word.TheVariants.{All, Using, Emp, Minimizing, Maximizing, Infinity, Square, Power, Low, High, Fixed, Level, Marginal, Other}
 use Rattle.gms_read.specs.declared.lexeme.Domain.TheVariants.{Free, Positive, Negative, Discrete}
@@ -16,11 +17,6 @@ use Rattle.gms_read.specs.declared.lexeme.Scale.TheVariants.{Times, Over}
 use Rattle.gms_read.specs.declared.lexeme.Sort.{Sort}
 use Rattle.gms_read.specs.declared.lexeme.Sort.TheVariants.{Name, Numeral, Text, Relation as Related, Domain, Variables, Equations, Model, Solve, Sign, Scale, Raise, Equals, Semicolon, Comma, Dot, Dots, Open, Close}
 use Rattle.gms_read.specs.declared.lexeme.Lexeme.{Lexeme}
-
--- the first of the words that it is
-abbrev pub of_words : {X : Type 0} → X → List (List ℕ × X) → List ℕ → X
-of_words other [] bs = other
-of_words other (w ∷ ws) bs = cond (bytes_eq bs w.0) w.1 (of_words other ws bs)
 
 -- the keywords, and what they are
 abbrev pub keywords : List (List ℕ × Sort)

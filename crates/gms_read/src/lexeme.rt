@@ -1,6 +1,7 @@
 //! Tokens as the grammar of models sees them.
 use emp_ast::model::Relation;
 use emp_ast::tree::Place;
+use emp_lex::token::part;
 use emp_num::frac::Frac;
 
 /// A name by what it means where a rule asks for its letters.
@@ -90,21 +91,8 @@ pub struct Lexeme {
     pub place: Place,
 }
 
-ghost use Rattle.std.specs.Prelude.{◌≡◌, slice_range};
+ghost use Rattle.std.specs.Prelude.{◌≡◌};
 ghost use Rattle.gms_read.specs.Lexemes.{spelling};
-
-/// The bytes of a text from `from` up to and without `to`.
-pub fn part(text: &[u8], from: u32, to: u32) -> &[u8]
-    ensures { result.now ≡ slice_range text.now from to }
-{
-    let from = from as usize;
-    let to = (to as usize).min(text.len());
-    if from < to {
-        &text[from..to]
-    } else {
-        &text[..0]
-    }
-}
 
 impl Lexeme {
     /// Its bytes in the text.

@@ -1,31 +1,20 @@
 //! From tokens to lexemes.
-ghost use Rattle.std.specs.Prelude.{◌≡◌, true, Err, map, IfOk, slice_range};
+ghost use Rattle.std.specs.Prelude.{◌≡◌, true, Err, IfOk, slice_range};
 ghost use Rattle.emp_num.specs.declared.numeral.NumeralFault.TheVariants.{Wide};
 ghost use Rattle.emp_num.specs.Numeral.{NumeralGives, numeral_form};
 ghost use Rattle.emp_lex.specs.declared.token.TokenKind.TheVariants.{Numeral as NumeralToken};
 ghost use Rattle.emp_lex.specs.Forms.{HasForm};
 ghost use Rattle.emp_lex.specs.Tokens.{IsTokenList, IsTooWide};
 ghost use Rattle.gms_read.specs.declared.lexeme.Word.TheVariants.{Other};
-ghost use Rattle.gms_read.specs.Lexemes.{IsSort, IsLexeme, AreLexemes, of_words, words, word_sort, relation_of, symbol_sort};
+ghost use Rattle.emp_lex.specs.Words.{of_words};
+ghost use Rattle.gms_read.specs.Lexemes.{IsSort, IsLexeme, AreLexemes, words, word_sort, relation_of, symbol_sort};
 
-use crate::lexeme::{Domain, Lexeme, Scale, Sign, Sort, Word, part};
+use crate::lexeme::{Domain, Lexeme, Scale, Sign, Sort, Word};
 use emp_ast::model::Relation;
-use emp_lex::token::{Token, TokenKind};
+use emp_lex::token::{Token, TokenKind, part};
+use emp_lex::word::of_words;
 use emp_num::numeral::read_numeral;
 use std::alloc::{AllocError, Global};
-
-/// What stands beside the first of the words that the bytes are.
-#[tactic(auto, using(crate::proofs::WordLists::looking))]
-fn of_words<T: Copy>(other: T, words: &[(&[u8], T)], bytes: &[u8]) -> T
-    ensures { result ≡ of_words other (map (λ w. (w.0.now, w.1)) words.now) bytes.now }
-{
-    for (word, value) in words {
-        if *word == bytes {
-            return *value;
-        }
-    }
-    other
-}
 
 /// The word that a name in lower case is.
 fn word_of(name: &[u8]) -> Word

@@ -1,6 +1,5 @@
 //! From a text to its model.
-ghost use Rattle.std.specs.Prelude.{◌≡◌, ◌<◌, length, MatchResult};
-ghost use Rattle.emp_lex.specs.Tokens.{past, start};
+ghost use Rattle.std.specs.Prelude.{◌<◌, length, MatchResult};
 ghost use Rattle.gms_read.specs.Texts.{IsModelText, RefusesModel};
 
 use crate::fault::ModelFault;
@@ -10,17 +9,8 @@ use crate::nesting::too_deep;
 use crate::parse::parse;
 use crate::perform::perform;
 use emp_ast::model::Model;
-use emp_ast::tree::Place;
-use emp_lex::lexer::{past, tokens};
+use emp_lex::lexer::{end_of, tokens};
 use std::alloc::Global;
-
-/// The place behind the last byte of a text.
-fn end_of(text: &[u8]) -> Place
-    requires { length text.now < 4294967295 }
-    ensures { result ≡ past start text.now }
-{
-    past(Place { line: 1, column: 1 }, text)
-}
 
 /// The model for which the text stands, or the first fault of a text that stands for none, as `specs/Texts.antt`
 /// defines both.

@@ -1,7 +1,7 @@
 use Rattle.std.proofs.Common.{◌≡◌, drop}
-use Rattle.gms_read.specs.Lexemes.{of_words}
-use Rattle.gms_read.proofs.WordLists.{bare}
-use Rattle.gms_read.proofs.lexemes.of_words.Given as goal
+use Rattle.emp_lex.specs.Words.{of_words}
+use Rattle.emp_lex.proofs.WordLists.{bare}
+use Rattle.emp_lex.proofs.word.of_words.Given as goal
 
 abbrev pub invariant-loop-word : goal.invariant-loop-word
 invariant-loop-word g l = of_words l.other (bare (drop l.word-index l.words)) l.bytes ≡ of_words l.other (bare l.words) l.bytes

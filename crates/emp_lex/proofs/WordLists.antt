@@ -3,7 +3,7 @@ use Rattle.std.proofs.Common.{◌≡◌, ℕ, ◌+◌, ◌<◌, ◌≤◌, true,
 use Rattle.std.specs.Prelude.{bytes_eq}
 use Rattle.std.proofs.lemmas.List.{drop_more, drop_all}
 use Rattle.std.proofs.lemmas.Cmp.{nat_list_eq_equiv}
-use Rattle.gms_read.specs.Lexemes.{of_words}
+use Rattle.emp_lex.specs.Words.{of_words}
 
 -- the words themselves
 abbrev pub bare : {X : Type 0} → List (Bor (List ℕ) × X) → List (List ℕ × X)
