@@ -13,3 +13,4 @@ pub mod Convex
 pub mod Names
 -- What only helps proofs
 pub mod Nodes
+pub mod Trees

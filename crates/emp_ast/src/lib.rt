@@ -7,4 +7,5 @@
 pub mod annot;
 pub mod laws;
 pub mod model;
+pub mod postorder;
 pub mod tree;

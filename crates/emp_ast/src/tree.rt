@@ -2,8 +2,11 @@
 ghost use Rattle.std.specs.Prelude.{◌≡◌, true, length};
 ghost use Rattle.emp_ast.specs.Expression.{is_postorder};
 
+use crate::postorder::is_postorder;
+use emp_list::memory::NoMemory;
 use emp_list::seq::Seq;
 use emp_num::frac::Frac;
+use std::alloc::Global;
 
 /// A variable by its number, from 0 in order of declaration.
 #[derive(Clone, Copy, Debug, PartialEq, Eq)]
@@ -57,4 +60,21 @@ pub struct Tree {
     pub places: Seq<Place>,
     pub ghost whole: { is_postorder nodes ≡ true },
     pub ghost placed: { length places ≡ length nodes },
+}
+
+impl Tree {
+    ghost use Rattle.std.specs.Prelude.{IfOk};
+    ghost use Rattle.emp_ast.specs.Trees.{tree_from};
+
+    /// The tree of these nodes and places. `None` exactly where the nodes are not those of one expression in postorder, or
+    /// there is not one place for each.
+    pub fn of(alloc: Global, nodes: Seq<Node>, places: Seq<Place>) -> Result<Option<Tree>, NoMemory>
+        ensures { IfOk result (λ t. t ≡ tree_from nodes places) }
+    {
+        if is_postorder(alloc, nodes.as_slice())? && places.len() == nodes.len() {
+            Ok(Some(Tree { nodes, places }))
+        } else {
+            Ok(None)
+        }
+    }
 }
