@@ -1,3 +1,7 @@
 pub mod Finding
 pub mod Nodes
 pub mod Trees
+pub mod Fractions
+pub mod SameValues
+pub mod SameWords
+pub mod Given

@@ -11,6 +11,8 @@ pub mod Equilibrium
 pub mod Bilevel
 pub mod Convex
 pub mod Names
+-- Laws
+pub mod SameLaws
 -- What only helps proofs
 pub mod Nodes
 pub mod Trees
