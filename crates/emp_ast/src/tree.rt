@@ -77,4 +77,13 @@ impl Tree {
             Ok(None)
         }
     }
+
+    /// The same tree once more.
+    pub fn copy(&self, alloc: Global) -> Result<Tree, NoMemory>
+        ensures { IfOk result (λ t. t ≡ self.now) }
+    {
+        let nodes = self.nodes.copy(alloc)?;
+        let places = self.places.copy(alloc)?;
+        Ok(Tree { nodes, places })
+    }
 }

@@ -1,0 +1,5 @@
+use Rattle.std.specs.Prelude.{◌≡◌, take}
+use Rattle.emp_ast.proofs.model.copy_equations.Given as goal
+
+abbrev pub invariant-loop-at : goal.invariant-loop-at
+invariant-loop-at l = l.copies ≡ take l.at l.equations
