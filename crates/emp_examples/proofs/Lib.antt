@@ -1,0 +1,12 @@
+pub mod Short
+pub mod Values
+pub mod Parties
+pub mod Rivals
+pub mod Inequalities
+pub mod Agents
+pub mod Multipliers
+pub mod Signs
+pub mod Sharing
+pub mod Rations
+pub mod Bilevel
+pub mod Convexity

@@ -1,0 +1,7 @@
+pub mod Small
+pub mod Values
+pub mod Parties
+pub mod Rivals
+pub mod Multipliers
+pub mod Sharing
+pub mod Bilevel
