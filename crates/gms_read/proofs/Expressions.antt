@@ -6,7 +6,9 @@ use Rattle.emp_ast.specs.declared.tree.Place.{Place}
 use Rattle.emp_ast.specs.declared.tree.Operator.{Operator}
 use Rattle.emp_ast.specs.declared.tree.Node.{Node}
 use Rattle.emp_ast.specs.declared.tree.Node.TheVariants.{Neg, Power}
-use Rattle.emp_ast.specs.Expression.{Expression, number, variable, negated, joined as joined_with, power, size, root, nodes_from, join_node}
+use Rattle.emp_ast.specs.Expression.{Expression, number, variable, negated, joined as joined_with, power}
+use Rattle.emp_ast.specs.Nodes.{size, root, nodes_from, join_node}
+use Rattle.emp_ast.proofs.Trees.{length_nodes}
 use Rattle.gms_read.specs.declared.lexeme.Word.TheVariants.{Square, Power as PowerWord}
 use Rattle.gms_read.specs.declared.lexeme.Sign.{Sign}
 use Rattle.gms_read.specs.declared.lexeme.Sign.TheVariants.{Plus, Minus}
@@ -37,17 +39,6 @@ unless_or (Some f) b r = refl
 unless_or None b r = refl
 
 -- ---- numbers of nodes
-pub length_nodes : (e : Expression) (n : ℕ) → length (nodes_from n e) ≡ size e
-length_nodes (number f) n = refl
-length_nodes (variable k) n = refl
-length_nodes (negated e) n = length-append (nodes_from n e) (Neg (root n e) ∷ []) ∙ ap (λ k. k + 1) (length_nodes e n)
-length_nodes (joined_with op e f) n =
-    length-append (nodes_from n e ++ nodes_from (n + size e) f) (join_node op (root n e) (root (n + size e) f) ∷ [])
-    ∙ ap (λ k. k + 1) (length-append (nodes_from n e) (nodes_from (n + size e) f))
-    ∙ ap (λ k. k + length (nodes_from (n + size e) f) + 1) (length_nodes e n)
-    ∙ ap (λ k. size e + k + 1) (length_nodes f (n + size e))
-length_nodes (power e k) n = length-append (nodes_from n e) (Power (root n e) k ∷ []) ∙ ap (λ j. j + 1) (length_nodes e n)
-
 behind_nodes : (ns : List Node) (e : Expression) → length (ns ++ nodes_from (length ns) e) ≡ length ns + size e
 behind_nodes ns e = length-append ns (nodes_from (length ns) e) ∙ ap (λ k. length ns + k) (length_nodes e (length ns))
 
@@ -59,7 +50,7 @@ first_node n = omega arith
 
 -- ---- a side with its nodes, places and roots
 abbrev pub reading : Progress → List Node → List Place → List ℕ → Progress
-reading p ns ps rs = with_side p (record { tree = record { nodes = ns; places = ps }; roots = rs; second = Absent })
+reading p ns ps rs = with_side p (record { nodes = ns; places = ps; roots = rs; second = Absent })
 
 same_reading : (text : List ℕ) (p : Progress) (ns ms : List Node) (ps qs : List Place) (r s : ℕ) (rs : List ℕ) (rest : List Item) → ns ≡ ms → ps ≡ qs → r ≡ s → all_steps text (reading p ns ps (r ∷ rs)) rest ≡ all_steps text (reading p ms qs (s ∷ rs)) rest
 same_reading text p ns ms ps qs r s rs rest a b c =

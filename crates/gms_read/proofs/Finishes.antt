@@ -1,5 +1,5 @@
 -- What is left to see and to copy after the text.
-use Rattle.std.proofs.Common.{◌≡◌, ℕ, ◌+◌, ◌<◌, ◌≤◌, Bool, true, false, cond, ℤ, Some, None, List, [], ◌∷◌, ◌++◌, length, take, drop, get_or, refl, sym, ap, ◌∙◌, ◌⊎◌, inl, inr, arith}
+use Rattle.std.proofs.Common.{◌≡◌, ℕ, ◌+◌, ◌<◌, ◌≤◌, Bool, true, false, cond, ℤ, Some, None, List, [], ◌∷◌, ◌++◌, length, take, drop, get_or, refl, sym, ap, ◌∙◌, arith, append_assoc, append-nil}
 use Rattle.std.proofs.lemmas.Int.{ints}
 use Rattle.std.specs.Prelude.{int_lt}
 use Rattle.std.specs.Ordering.{is_gt}
@@ -7,37 +7,31 @@ use Rattle.std.specs.declared.cmp.Ordering.{Ordering}
 use Rattle.std.specs.declared.cmp.Ordering.TheVariants.{Less, Equal, Greater}
 use Rattle.std.proofs.lemmas.List.{drop_more, drop_all, take_more, take_all}
 use Rattle.emp_num.specs.Orders.{IsOrder}
-use Rattle.emp_ast.specs.declared.model.Equation.{Equation}
+use Rattle.gms_read.specs.declared.draft.DraftEquation.{DraftEquation}
 use Rattle.gms_read.specs.declared.draft.DraftVariable.{DraftVariable}
 use Rattle.gms_read.specs.declared.fault.ModelFault.TheVariants.{Undefined, BoundsCross}
-use Rattle.gms_read.specs.Rules.{no_equation, undefined_from, crosses, crossing_from, end_of, finished_variables}
+use Rattle.gms_read.specs.Rules.{is_none, undefined_from, finished_equation, finished_equations, crosses, crossing_from, end_of, finished_variables}
 
 -- ---- equations
-undefined_step : (es : List Equation) (bs : List Bool) (i : ℕ) (d : Equation) → i < length es → i < length bs
-    → undefined_from i (drop i es) (drop i bs) ≡ cond (get_or bs i false) (undefined_from (i + 1) (drop (i + 1) es) (drop (i + 1) bs)) (Some (Undefined (record { at = i }) (get_or es i d).name))
-undefined_step es bs i d h l =
-    ap (λ x. undefined_from i x (drop i bs)) (drop_more es i d h) ∙ ap (undefined_from i (get_or es i d ∷ drop (i + 1) es)) (drop_more bs i false l)
+undefined_step : (es : List DraftEquation) (i : ℕ) (e : DraftEquation) → i < length es → e ≡ get_or es i e → undefined_from i (drop i es) ≡ cond (is_none e.definition) (Some (Undefined (record { at = i }) e.name)) (undefined_from (i + 1) (drop (i + 1) es))
+undefined_step es i e h q = ap (undefined_from i) (drop_more es i e h ∙ ap (λ x. x ∷ drop (i + 1) es) (sym q))
 
-pub undefined_on : (es : List Equation) (bs : List Bool) (i : ℕ) → i < length es → i < length bs → get_or bs i false ≡ true → undefined_from i (drop i es) (drop i bs) ≡ undefined_from (i + 1) (drop (i + 1) es) (drop (i + 1) bs)
-undefined_on es bs i h l t =
-    undefined_step es bs i no_equation h l ∙ ap (λ b. cond b (undefined_from (i + 1) (drop (i + 1) es) (drop (i + 1) bs)) (Some (Undefined (record { at = i }) (get_or es i no_equation).name))) t
+pub undefined_on : (es : List DraftEquation) (i : ℕ) (e : DraftEquation) → i < length es → e ≡ get_or es i e → is_none e.definition ≡ false → undefined_from i (drop i es) ≡ undefined_from (i + 1) (drop (i + 1) es)
+undefined_on es i e h q f = undefined_step es i e h q ∙ ap (λ b. cond b (Some (Undefined (record { at = i }) e.name)) (undefined_from (i + 1) (drop (i + 1) es))) f
 
-pub undefined_here : (es : List Equation) (bs : List Bool) (i : ℕ) (e : Equation) → i < length es → i < length bs → get_or bs i false ≡ false → e ≡ get_or es i e → undefined_from i (drop i es) (drop i bs) ≡ Some (Undefined (record { at = i }) e.name)
-undefined_here es bs i e h l f q =
-    undefined_step es bs i e h l ∙ ap (λ b. cond b (undefined_from (i + 1) (drop (i + 1) es) (drop (i + 1) bs)) (Some (Undefined (record { at = i }) (get_or es i e).name))) f ∙ ap (λ x. Some (Undefined (record { at = i }) x.name)) (sym q)
+pub undefined_here : (es : List DraftEquation) (i : ℕ) (e : DraftEquation) → i < length es → e ≡ get_or es i e → is_none e.definition ≡ true → undefined_from i (drop i es) ≡ Some (Undefined (record { at = i }) e.name)
+undefined_here es i e h q t = undefined_step es i e h q ∙ ap (λ b. cond b (Some (Undefined (record { at = i }) e.name)) (undefined_from (i + 1) (drop (i + 1) es))) t
 
-none_left : (k : ℕ) (es : List Equation) → undefined_from k es [] ≡ None
-none_left k [] = refl
-none_left k (e ∷ es) = refl
-
-no_equations : (k i : ℕ) (es : List Equation) (bs : List Bool) → length es ≤ i → undefined_from k (drop i es) bs ≡ None
-no_equations k i es bs h = ap (λ x. undefined_from k x bs) (drop_all i es h)
-
-pub undefined_end : (es : List Equation) (bs : List Bool) (k i : ℕ) → (length es ≤ i) ⊎ (length bs ≤ i) → undefined_from k (drop i es) (drop i bs) ≡ None
-undefined_end es bs k i (inl h) = no_equations k i es (drop i bs) h
-undefined_end es bs k i (inr h) = ap (undefined_from k (drop i es)) (drop_all i bs h) ∙ none_left k (drop i es)
+pub undefined_end : (es : List DraftEquation) (k i : ℕ) → length es ≤ i → undefined_from k (drop i es) ≡ None
+undefined_end es k i h = ap (undefined_from k) (drop_all i es h)
 
 pub ruleset defining = (undefined_on, undefined_here, undefined_end)
+
+pub equations_push : (es : List DraftEquation) (e : DraftEquation) → finished_equations (es ++ e ∷ []) ≡ finished_equations es ++ finished_equation e.name e.definition
+equations_push [] e = append-nil (finished_equation e.name e.definition)
+equations_push (f ∷ es) e = ap (λ x. finished_equation f.name f.definition ++ x) (equations_push es e) ∙ sym (append_assoc (finished_equation f.name f.definition) (finished_equations es) (finished_equation e.name e.definition))
+
+pub ruleset collecting = (equations_push, append_assoc, append-nil)
 
 -- ---- bounds
 pub above_is : (o : Ordering) (x y : ℤ) → IsOrder o x y → int_lt y x ≡ is_gt o

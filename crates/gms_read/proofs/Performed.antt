@@ -1,7 +1,12 @@
 -- The items of statements do what the statements do.
 use Rattle.std.proofs.Common.{◌≡◌, ◌⊎◌, ℕ, ◌+◌, ◌<◌, ◌≤◌, Bool, true, false, cond, List, [], ◌∷◌, ◌++◌, map, length, get_or, drop, slice_range, Option, Some, None, Result, Ok, Err, IsErrAnd, inl, inr, refl, sym, ap, ◌∙◌, append_assoc}
 use Rattle.std.proofs.lemmas.List.{at_drop_more, at_drop_all, take_rest}
+use Rattle.emp_ast.specs.declared.tree.Tree.{Tree}
 use Rattle.emp_ast.specs.declared.model.Relation.{Relation}
+use Rattle.emp_ast.specs.declared.model.Relation.TheVariants.{Nothing}
+use Rattle.emp_ast.specs.Nodes.{root, nodes_from}
+use Rattle.emp_ast.specs.Trees.{tree_from}
+use Rattle.emp_ast.proofs.Trees.{tree_from_is}
 use Rattle.emp_ast.specs.declared.model.Sense.{Sense}
 use Rattle.gms_read.specs.declared.lexeme.Domain.TheVariants.{Free, Positive, Negative, Discrete as DiscreteWord}
 use Rattle.gms_read.specs.declared.lexeme.Lexeme.{Lexeme}
@@ -10,12 +15,15 @@ use Rattle.gms_read.specs.declared.item.Item.TheVariants.{Variable, Equation, Re
 use Rattle.gms_read.specs.declared.draft.Draft.{Draft}
 use Rattle.gms_read.specs.declared.fault.ModelFault.{ModelFault}
 use Rattle.gms_read.specs.declared.fault.ModelFault.TheVariants.{Undeclared, NoMemory}
+use Rattle.gms_read.specs.declared.progress.Second.TheVariants.{Absent}
+use Rattle.gms_read.specs.declared.progress.Side.{Side}
 use Rattle.gms_read.specs.declared.progress.Progress.{Progress}
 use Rattle.gms_read.specs.Grammar.{Written, Statement, empty, variables, equations, definition, setting, model, solve, IsFile}
 use Rattle.gms_read.specs.Items.{written_items, statement_items, items_of}
 use Rattle.gms_read.specs.Steps.{DraftsAll}
-use Rattle.gms_read.specs.Rules.{Step, and_then, or_else, unless_fault, or_zero, equation_of, variable_of, declared_as, is_model, expression_fault, tree_of, definition_fault, with_definition, define, declare_variable, declare_equation, declare_model, declare_all, set_by, with_goal, aim_at, aim, after, after_all, nothing_yet}
-use Rattle.gms_read.specs.Performing.{idle, with_equation, on_draft, begun_by, solved, item_step, next_step, all_steps}
+use Rattle.gms_read.specs.Rules.{Step, and_then, or_else, unless_fault, or_zero, equation_of, variable_of, declared_as, is_model, expression_fault, meaning, places, tree_of, definition_fault, with_definition, define, declare_variable, declare_equation, declare_model, declare_all, set_by, with_goal, aim_at, aim, after, after_all, nothing_yet}
+use Rattle.gms_read.specs.Sides.{no_side}
+use Rattle.gms_read.specs.Performing.{idle, with_equation, define_by, ended, on_draft, begun_by, solved, item_step, next_step, all_steps}
 use Rattle.gms_read.proofs.Formed.{IsFormed, IsFormedStatement, AreFormed, formed_file}
 use Rattle.gms_read.proofs.Expressions.{unless, read_written}
 
@@ -45,14 +53,25 @@ unless_both (Some f) b d next = refl
 unless_both None (Some f) d next = refl
 unless_both None None d next = refl
 
+-- a side that is the written expression
+abbrev whole_side : List ℕ → Draft → Written → Side
+whole_side text d e = record { nodes = nodes_from 0 (meaning text d e); places = places e; roots = root 0 (meaning text d e) ∷ []; second = Absent }
+
+both_trees : (text : List ℕ) (d : Draft) (k : ℕ) (left right : Written) (r : Relation) → define_by d k (tree_from (nodes_from 0 (meaning text d left)) (places left)) r (tree_from (nodes_from 0 (meaning text d right)) (places right)) ≡ with_definition text d k left r right
+both_trees text d k left right r =
+    ap (λ o. define_by d k o r (tree_from (nodes_from 0 (meaning text d right)) (places right))) (tree_from_is (tree_of text d left))
+    ∙ ap (λ o. define_by d k (Some (tree_of text d left)) r o) (tree_from_is (tree_of text d right))
+
 -- both sides, where the name's rules are kept
 read_sides : (text : List ℕ) (d : Draft) (k : ℕ) (left right : Written) (r : Relation) → IsFormed left false → IsFormed right false → (rest : List Item) → all_steps text (with_equation (idle d) k) (written_items left ++ Relates r ∷ written_items right ++ Ends ∷ [] ++ rest) ≡ unless (expression_fault text d left) (unless (expression_fault text d right) (all_steps text (idle (with_definition text d k left r right)) rest))
 read_sides text d k left right r h j rest =
     let p : Progress = with_equation (idle d) k in
-    let q : Progress = record { draft = d; equation = k; left = tree_of text d left; relation = r; side = p.side } in
+    let q : Progress = record { draft = d; equation = k; left = whole_side text d left; relation = r; side = p.side } in
     ap (all_steps text p) (append_assoc (written_items left ++ Relates r ∷ written_items right) (Ends ∷ []) rest ∙ append_assoc (written_items left) (Relates r ∷ written_items right) (Ends ∷ rest))
     ∙ read_written text p left h [] [] [] (Relates r ∷ (written_items right ++ Ends ∷ rest))
-    ∙ ap (unless (expression_fault text d left)) (read_written text q right j [] [] [] (Ends ∷ rest))
+    ∙ ap (unless (expression_fault text d left))
+    (read_written text q right j [] [] [] (Ends ∷ rest)
+    ∙ ap (λ e. unless (expression_fault text d right) (all_steps text (idle e) rest)) (both_trees text d k left right r))
 
 perform_definition : (text : List ℕ) (d : Draft) (t : Lexeme) (left right : Written) (r : Relation) → IsFormed left false → IsFormed right false → (rest : List Item) → all_steps text (idle d) (statement_items (definition t left r right) ++ rest) ≡ go_on (define text d t left r right) (λ e. all_steps text (idle e) rest)
 perform_definition text d t left right r h j rest = go (equation_of text d t) (definition_fault d t (equation_of text d t))
@@ -148,3 +167,11 @@ drafts_fault text p is k i f (Err z) g h e (inl m) s = inl (g ∙ m)
 drafts_fault text p is k i f (Err z) g h e (inr m) s = drafts_err text is z (sym s ∙ steps_err text p is k i f h e m ∙ ap Err (sym g))
 
 pub ruleset performing = (steps_more, steps_all, drafts_ok)
+
+-- ---- the end of a definition
+pub ended_is : (p : Progress) (l r a b : Side) (left right : Option Tree) (d : Draft) → l ≡ p.left → r ≡ p.side → left ≡ tree_from l.nodes l.places → right ≡ tree_from r.nodes r.places → d ≡ define_by p.draft p.equation left p.relation right → a ≡ no_side → b ≡ no_side → ended p ≡ record { draft = d; equation = 0; left = a; relation = Nothing; side = b }
+ended_is p l r a b left right d hl hr ha hb hd na nb =
+    let f : left ≡ tree_from p.left.nodes p.left.places = ha ∙ ap (λ s. tree_from s.nodes s.places) hl in
+    let g : right ≡ tree_from p.side.nodes p.side.places = hb ∙ ap (λ s. tree_from s.nodes s.places) hr in
+    let e : define_by p.draft p.equation (tree_from p.left.nodes p.left.places) p.relation (tree_from p.side.nodes p.side.places) ≡ d = ap (λ o. define_by p.draft p.equation o p.relation (tree_from p.side.nodes p.side.places)) (sym f) ∙ ap (λ o. define_by p.draft p.equation left p.relation o) (sym g) ∙ sym hd in
+    λ i. record { draft = e i; equation = 0; left = sym na i; relation = Nothing; side = sym nb i }

@@ -20,7 +20,7 @@ use Rattle.gms_read.specs.declared.table.Named.{Named}
 use Rattle.gms_read.specs.declared.table.Named.TheVariants.{Variable as VariableName, Equation as EquationName, Model as ModelName}
 use Rattle.gms_read.specs.declared.fault.ModelFault.{ModelFault}
 use Rattle.gms_read.specs.declared.fault.ModelFault.TheVariants.{Lex, Syntax, Undeclared, Twice, Discrete, Attribute, Function, TooLarge, Undefined, BoundsCross, NoMemory}
-use Rattle.emp_ast.specs.declared.model.Equation.{Equation}
+use Rattle.gms_read.specs.declared.draft.DraftEquation.{DraftEquation}
 use Rattle.gms_read.specs.Lexemes.{AreLexemes}
 use Rattle.gms_read.specs.Nesting.{too_deep}
 use Rattle.gms_read.specs.Grammar.{Written, numeral, name, call, listed, grouped, raised, signed, joined, Statement, empty, variables, equations, definition, setting, model, solve}
@@ -140,11 +140,13 @@ after_all_rule : (text : List ℕ) (d : Draft) (ss : List Statement) → MayStep
 after_all_rule text d [] = tt
 after_all_rule text d (s ∷ ss) = both (after text d s) (λ e. after_all text e ss) (after_rule text d s) (λ e. after_all_rule text e ss)
 
-undefined_rule : (k : ℕ) (es : List Equation) (bs : List Bool) → MayFault (undefined_from k es bs)
-undefined_rule k [] bs = tt
-undefined_rule k (e ∷ es) [] = tt
-undefined_rule k (e ∷ es) (true ∷ bs) = undefined_rule (k + 1) es bs
-undefined_rule k (e ∷ es) (false ∷ bs) = tt
+undefined_rule : (k : ℕ) (es : List DraftEquation) → MayFault (undefined_from k es)
+undefined_rule k [] = tt
+undefined_rule k (e ∷ es) = go (is_none e.definition) (undefined_rule (k + 1) es)
+  where
+    go : (b : Bool) → MayFault (undefined_from (k + 1) es) → MayFault (cond b (Some (Undefined (record { at = k }) e.name)) (undefined_from (k + 1) es))
+    go true h = tt
+    go false h = h
 
 crossing_rule : (k : ℕ) (vs : List DraftVariable) → MayFault (crossing_from k vs)
 crossing_rule k [] = tt
@@ -206,4 +208,4 @@ pub finish_gives : (text : List ℕ) (items : List Item) (d : Draft) (r : Result
 finish_gives text items d (Ok m) h a e = gives text items (Ok m) h (ap whole_meaning_by (a h.lexemes h.are.statements h.are.file h.are.are) ∙ e)
 finish_gives text items d (Err f) h a (inl e) = no_memory text f e
 finish_gives text items d (Err f) h a (inr e) =
-    rule_refused text f (finish_rule _ d f (either _ _ (undefined_rule 0 d.equations d.defined) (crossing_rule 0 d.variables)) e) (gives text items (Err f) h (ap whole_meaning_by (a h.lexemes h.are.statements h.are.file h.are.are) ∙ e))
+    rule_refused text f (finish_rule _ d f (either _ _ (undefined_rule 0 d.equations) (crossing_rule 0 d.variables)) e) (gives text items (Err f) h (ap whole_meaning_by (a h.lexemes h.are.statements h.are.file h.are.are) ∙ e))

@@ -1,9 +1,11 @@
+pub mod Expressions
 pub mod Grammar
 pub mod Items
 pub mod Lexemes
 pub mod Machine
 pub mod Nesting
 pub mod Performing
+pub mod Placed
 pub mod Rules
 pub mod Shapes
 pub mod Sides

@@ -1,6 +1,7 @@
 -- What items do, one by one.
-use Rattle.std.specs.Prelude.{◌≡◌, ◌⊎◌, ℕ, true, cond, List, [], ◌∷◌, slice_set, Option, Some, None, Result, Ok, Err}
+use Rattle.std.specs.Prelude.{◌≡◌, ◌⊎◌, ℕ, true, cond, List, [], ◌∷◌, Option, Some, None, Result, Ok, Err}
 use Rattle.emp_ast.specs.declared.tree.Tree.{Tree}
+use Rattle.emp_ast.specs.Trees.{tree_from}
 use Rattle.emp_ast.specs.declared.model.Relation.{Relation}
 use Rattle.emp_ast.specs.declared.model.Relation.TheVariants.{Nothing}
 use Rattle.gms_read.specs.declared.lexeme.Lexeme.{Lexeme}
@@ -12,7 +13,7 @@ use Rattle.gms_read.specs.declared.fault.ModelFault.TheVariants.{Undeclared, NoM
 use Rattle.gms_read.specs.declared.progress.Second.TheVariants.{Awaited}
 use Rattle.gms_read.specs.declared.progress.Side.{Side}
 use Rattle.gms_read.specs.declared.progress.Progress.{Progress}
-use Rattle.gms_read.specs.Rules.{Step, no_tree, equation_of, variable_of, equation_at, or_zero, exponent, definition_fault, discrete_fault, declare_variable, declare_equation, declare_model, set_by, declared_as, is_model, with_goal, aim_at}
+use Rattle.gms_read.specs.Rules.{Step, equation_of, variable_of, with_sides, or_zero, exponent, definition_fault, discrete_fault, declare_variable, declare_equation, declare_model, set_by, declared_as, is_model, with_goal, aim_at}
 use Rattle.gms_read.specs.Sides.{no_side, with_second, number_by, name_by, exponent_of, raised_to, raise_by, signed_by, joined_by, entered}
 
 -- a call that changes `new` did what the step gives, or its memory was wanting
@@ -22,7 +23,7 @@ Does (Err f) new step = (f ≡ NoMemory) ⊎ (step ≡ Err f)
 
 -- between two statements
 abbrev pub idle : Draft → Progress
-idle d = record { draft = d; equation = 0; left = no_tree; relation = Nothing; side = no_side }
+idle d = record { draft = d; equation = 0; left = no_side; relation = Nothing; side = no_side }
 
 abbrev pub with_draft : Progress → Draft → Progress
 with_draft p d = record { draft = d; equation = p.equation; left = p.left; relation = p.relation; side = p.side }
@@ -51,21 +52,17 @@ begun text p t = begun_by p (equation_of text p.draft t) (definition_fault p.dra
 
 -- the left side ends
 abbrev pub related : Progress → Relation → Progress
-related p r = record { draft = p.draft; equation = p.equation; left = p.side.tree; relation = r; side = no_side }
+related p r = record { draft = p.draft; equation = p.equation; left = p.side; relation = r; side = no_side }
 
-abbrev pub with_trees : Draft → ℕ → Tree → Relation → Tree → Draft
-with_trees d k left r right = record {
-  names = d.names;
-  variables = d.variables;
-  equations = slice_set d.equations k (record { name = (equation_at d k).name; left = left; right = right; relation = r });
-  defined = slice_set d.defined k true;
-  model = d.model;
-  goal = d.goal;
-}
+-- the definition, where both sides are expressions
+abbrev pub define_by : Draft → ℕ → Option Tree → Relation → Option Tree → Draft
+define_by d k (Some left) r (Some right) = with_sides d k (record { left = left; relation = r; right = right })
+define_by d k (Some left) r None = d
+define_by d k None r right = d
 
 -- the right side ends
 abbrev pub ended : Progress → Progress
-ended p = idle (with_trees p.draft p.equation p.left p.relation p.side.tree)
+ended p = idle (define_by p.draft p.equation (tree_from p.left.nodes p.left.places) p.relation (tree_from p.side.nodes p.side.places))
 
 abbrev pub solved : List ℕ → Draft → Lexeme → Step
 solved text d t = cond (is_model text d t) (Ok (with_goal d None)) (Err (Undeclared t.place))

@@ -15,24 +15,28 @@ use Rattle.emp_ast.specs.declared.model.End.{End}
 use Rattle.emp_ast.specs.declared.model.End.TheVariants.{Open as OpenEnd, At as AtEnd}
 use Rattle.emp_ast.specs.declared.model.Sense.{Sense}
 use Rattle.emp_ast.specs.declared.model.Model.{Model}
-use Rattle.emp_ast.specs.Expression.{Expression, number, variable, negated, joined as joined_with, power, nodes_from}
-use Rattle.gms_read.specs.declared.lexeme.Word.TheVariants.{Square, Power as PowerWord, Low, High, Fixed, Level, Marginal}
+use Rattle.emp_ast.specs.Nodes.{nodes_from}
+use Rattle.emp_ast.proofs.Nodes.{postorder_of}
+use Rattle.gms_read.specs.declared.lexeme.Word.TheVariants.{Low, High, Fixed, Level, Marginal}
 use Rattle.gms_read.specs.declared.lexeme.Domain.{Domain}
 use Rattle.gms_read.specs.declared.lexeme.Domain.TheVariants.{Free, Positive, Negative, Discrete as DiscreteWord}
-use Rattle.gms_read.specs.declared.lexeme.Sign.TheVariants.{Plus, Minus}
 use Rattle.gms_read.specs.declared.lexeme.Sort.{Sort}
 use Rattle.gms_read.specs.declared.lexeme.Sort.TheVariants.{Name}
 use Rattle.gms_read.specs.declared.lexeme.Lexeme.{Lexeme}
 use Rattle.gms_read.specs.declared.draft.Limit.{Limit}
 use Rattle.gms_read.specs.declared.draft.Limit.TheVariants.{Below, At, Above}
 use Rattle.gms_read.specs.declared.draft.DraftVariable.{DraftVariable}
+use Rattle.gms_read.specs.declared.draft.Definition.{Definition}
+use Rattle.gms_read.specs.declared.draft.DraftEquation.{DraftEquation}
 use Rattle.gms_read.specs.declared.draft.Draft.{Draft}
 use Rattle.gms_read.specs.declared.table.Named.{Named}
 use Rattle.gms_read.specs.declared.table.Named.TheVariants.{Variable as VariableName, Equation as EquationName, Model as ModelName}
 use Rattle.gms_read.specs.declared.fault.ModelFault.{ModelFault}
-use Rattle.gms_read.specs.declared.fault.ModelFault.TheVariants.{Undeclared, Twice, Discrete, Attribute, Function, TooLarge, Undefined, BoundsCross}
+use Rattle.gms_read.specs.declared.fault.ModelFault.TheVariants.{Undeclared, Twice, Discrete, Attribute, TooLarge, Undefined, BoundsCross}
 use Rattle.gms_read.specs.Lexemes.{spelling}
-use Rattle.gms_read.specs.Grammar.{Written, numeral, name, call, listed, grouped, raised, signed, joined, Statement, empty, variables, equations, definition, setting, model, solve}
+use Rattle.gms_read.specs.Grammar.{Written, Statement, empty, variables, equations, definition, setting, model, solve}
+pub use Rattle.gms_read.specs.Expressions.{or_else, fault_where, entry_of, declared_as, variable_in, equation_in, variable_of, equation_of, is_model_entry, is_model, is_none, small_whole, exponent, is_exponent, is_one_argument, is_power_of, is_power, is_function, expression_fault, or_zero, second_exponent, meaning, places}
+use Rattle.gms_read.specs.Placed.{placed}
 
 -- ---- steps that may break a rule
 abbrev pub Step : Type 0
@@ -43,144 +47,13 @@ abbrev pub and_then : Step → (Draft → Step) → Step
 and_then (Ok d) next = next d
 and_then (Err f) next = Err f
 
--- the first fault
-abbrev pub or_else : Option ModelFault → Option ModelFault → Option ModelFault
-or_else (Some f) other = Some f
-or_else None other = other
-
 abbrev pub unless_fault : Option ModelFault → Step → Step
 unless_fault (Some f) next = Err f
 unless_fault None next = next
 
-abbrev pub fault_where : Bool → ModelFault → Option ModelFault
-fault_where true f = Some f
-fault_where false f = None
-
--- ---- names
--- what a name in lower case is declared as
-abbrev pub entry_of : List (List ℕ × Named) → List ℕ → Option Named
-entry_of [] key = None
-entry_of (e ∷ es) key = cond (bytes_eq e.0 key) (Some e.1) (entry_of es key)
-
-abbrev pub declared_as : List ℕ → Draft → Lexeme → Option Named
-declared_as text d t = entry_of d.names (lower (spelling text t))
-
-abbrev pub variable_in : Option Named → Option ℕ
-variable_in (Some (VariableName k)) = Some k
-variable_in (Some (EquationName k)) = None
-variable_in (Some ModelName) = None
-variable_in None = None
-
-abbrev pub equation_in : Option Named → Option ℕ
-equation_in (Some (VariableName k)) = None
-equation_in (Some (EquationName k)) = Some k
-equation_in (Some ModelName) = None
-equation_in None = None
-
--- the number of the variable, or of the equation, that was declared before with that name
-abbrev pub variable_of : List ℕ → Draft → Lexeme → Option ℕ
-variable_of text d t = variable_in (declared_as text d t)
-
-abbrev pub equation_of : List ℕ → Draft → Lexeme → Option ℕ
-equation_of text d t = equation_in (declared_as text d t)
-
-abbrev pub is_model_entry : Option Named → Bool
-is_model_entry (Some (VariableName k)) = false
-is_model_entry (Some (EquationName k)) = false
-is_model_entry (Some ModelName) = true
-is_model_entry None = false
-
-abbrev pub is_model : List ℕ → Draft → Lexeme → Bool
-is_model text d t = is_model_entry (declared_as text d t)
-
-abbrev pub is_none : {X : Type 0} → Option X → Bool
-is_none None = true
-is_none (Some x) = false
-
--- ---- expressions
--- a whole number from 0 to 9
-abbrev pub small_whole : ℤ → ℤ → Option ℕ
-small_whole (pos n) (pos (suc zero)) = cond (nat_le n 9) (Some n) None
-small_whole n d = None
-
-abbrev pub exponent : Frac → Option ℕ
-exponent f = small_whole f.num f.den
-
-abbrev pub is_exponent : Frac → Bool
-is_exponent f = not (is_none (exponent f))
-
-abbrev pub is_one_argument : Written → Bool
-is_one_argument (listed a b) = false
-is_one_argument e = true
-
--- one argument and an exponent, which is a single numeral
-abbrev pub is_power_of : Written → Written → Bool
-is_power_of a (numeral t f) = is_one_argument a && is_exponent f
-is_power_of a b = false
-
-abbrev pub is_power : Written → Bool
-is_power (listed a b) = is_power_of a b
-is_power e = false
-
--- a square of one argument, or a power
-abbrev pub is_function : Sort → Written → Bool
-is_function (Name Square) a = is_one_argument a
-is_function (Name PowerWord) a = is_power a
-is_function s a = false
-
--- the first rule that an expression breaks
-abbrev pub expression_fault : List ℕ → Draft → Written → Option ModelFault
-expression_fault text d (numeral t f) = None
-expression_fault text d (name t) = fault_where (is_none (variable_of text d t)) (Undeclared t.place)
-expression_fault text d (call t a) = or_else (fault_where (not (is_function t.sort a)) (Function t.place)) (expression_fault text d a)
-expression_fault text d (listed a b) = or_else (expression_fault text d a) (expression_fault text d b)
-expression_fault text d (grouped e) = expression_fault text d e
-expression_fault text d (raised e p f) = or_else (expression_fault text d e) (fault_where (not (is_exponent f)) (Function p.place))
-expression_fault text d (signed s t e) = expression_fault text d e
-expression_fault text d (joined op t e f) = or_else (expression_fault text d e) (expression_fault text d f)
-
-abbrev pub or_zero : Option ℕ → ℕ
-or_zero None = 0
-or_zero (Some n) = n
-
--- the second argument, which is a numeral
-abbrev pub second_exponent : Written → ℕ
-second_exponent (listed a (numeral t f)) = or_zero (exponent f)
-second_exponent e = 2
-
--- the expression that is meant; a list of arguments stands for the first of them
-abbrev pub meaning : List ℕ → Draft → Written → Expression
-meaning text d (numeral t f) = number f
-meaning text d (name t) = variable (or_zero (variable_of text d t))
-meaning text d (call t a) = power (meaning text d a) (second_exponent a)
-meaning text d (listed a b) = meaning text d a
-meaning text d (grouped e) = meaning text d e
-meaning text d (raised e p f) = power (meaning text d e) (or_zero (exponent f))
-meaning text d (signed Plus t e) = meaning text d e
-meaning text d (signed Minus t e) = negated (meaning text d e)
-meaning text d (joined op t e f) = joined_with op (meaning text d e) (meaning text d f)
-
--- the places of its nodes: of the operator, the function's name or the single lexeme
-abbrev pub places : Written → List Place
-places (numeral t f) = t.place ∷ []
-places (name t) = t.place ∷ []
-places (call t a) = places a ++ t.place ∷ []
-places (listed a b) = places a
-places (grouped e) = places e
-places (raised e p f) = places e ++ p.place ∷ []
-places (signed Plus t e) = places e
-places (signed Minus t e) = places e ++ t.place ∷ []
-places (joined op t e f) = places e ++ places f ++ t.place ∷ []
-
-abbrev pub tree_of : List ℕ → Draft → Written → Tree
-tree_of text d e = record { nodes = nodes_from 0 (meaning text d e); places = places e }
-
 -- ---- declarations
 abbrev pub most : ℕ
 most = 512
-
-abbrev pub no_tree : Tree
-no_tree = record { nodes = []; places = [] }
 
 -- the ends that a declaration sets
 abbrev pub first_low : Domain → Limit
@@ -208,7 +81,7 @@ abbrev pub variable_at : Draft → ℕ → DraftVariable
 variable_at d k = slice_index_or d.variables k no_variable
 
 abbrev pub with_variable : Draft → ℕ → DraftVariable → Draft
-with_variable d k v = record { names = d.names; variables = slice_set d.variables k v; equations = d.equations; defined = d.defined; model = d.model; goal = d.goal }
+with_variable d k v = record { names = d.names; variables = slice_set d.variables k v; equations = d.equations; model = d.model; goal = d.goal }
 
 -- a new name with its number
 abbrev pub add_variable : List ℕ → Domain → Draft → Lexeme → Draft
@@ -216,7 +89,6 @@ add_variable text k d t = record {
   names = d.names ++ (lower (spelling text t), VariableName (length d.variables)) ∷ [];
   variables = d.variables ++ (record { name = spelling text t; low = first_low k; high = first_high k; signed = has_sign k }) ∷ [];
   equations = d.equations;
-  defined = d.defined;
   model = d.model;
   goal = d.goal;
 }
@@ -225,8 +97,7 @@ abbrev pub add_equation : List ℕ → Draft → Lexeme → Draft
 add_equation text d t = record {
   names = d.names ++ (lower (spelling text t), EquationName (length d.equations)) ∷ [];
   variables = d.variables;
-  equations = d.equations ++ (record { name = spelling text t; left = no_tree; right = no_tree; relation = Nothing }) ∷ [];
-  defined = d.defined ++ false ∷ [];
+  equations = d.equations ++ (record { name = spelling text t; definition = None }) ∷ [];
   model = d.model;
   goal = d.goal;
 }
@@ -236,7 +107,6 @@ add_model text d t = record {
   names = d.names ++ (lower (spelling text t), ModelName) ∷ [];
   variables = d.variables;
   equations = d.equations;
-  defined = d.defined;
   model = Some (spelling text t);
   goal = d.goal;
 }
@@ -281,24 +151,30 @@ abbrev pub declare_model : List ℕ → Draft → Lexeme → Step
 declare_model text d t = cond (is_none d.model && is_none (declared_as text d t)) (Ok (add_model text d t)) (Err (Twice t.place))
 
 -- ---- definitions
-abbrev pub no_equation : Equation
-no_equation = record { name = []; left = no_tree; right = no_tree; relation = Nothing }
+-- an expression with its places
+abbrev pub tree_of : List ℕ → Draft → Written → Tree
+tree_of text d e = record { nodes = nodes_from 0 (meaning text d e); places = places e; whole = postorder_of (meaning text d e); placed = placed text d e }
 
-abbrev pub equation_at : Draft → ℕ → Equation
+abbrev pub no_equation : DraftEquation
+no_equation = record { name = []; definition = None }
+
+abbrev pub equation_at : Draft → ℕ → DraftEquation
 equation_at d k = slice_index_or d.equations k no_equation
 
 abbrev pub is_defined : Draft → ℕ → Bool
-is_defined d k = slice_index_or d.defined k false
+is_defined d k = not (is_none (equation_at d k).definition)
 
-abbrev pub with_definition : List ℕ → Draft → ℕ → Written → Relation → Written → Draft
-with_definition text d k left r right = record {
+abbrev pub with_sides : Draft → ℕ → Definition → Draft
+with_sides d k sides = record {
   names = d.names;
   variables = d.variables;
-  equations = slice_set d.equations k (record { name = (equation_at d k).name; left = tree_of text d left; right = tree_of text d right; relation = r });
-  defined = slice_set d.defined k true;
+  equations = slice_set d.equations k (record { name = (equation_at d k).name; definition = Some sides });
   model = d.model;
   goal = d.goal;
 }
+
+abbrev pub with_definition : List ℕ → Draft → ℕ → Written → Relation → Written → Draft
+with_definition text d k left r right = with_sides d k (record { left = tree_of text d left; relation = r; right = tree_of text d right })
 
 -- the rules of the name that is defined
 abbrev pub definition_fault : Draft → Lexeme → Option ℕ → Option ModelFault
@@ -345,7 +221,7 @@ set_by d t a limit None = Err (Undeclared t.place)
 
 -- ---- the solve statement
 abbrev pub with_goal : Draft → Option (Sense × VarId) → Draft
-with_goal d goal = record { names = d.names; variables = d.variables; equations = d.equations; defined = d.defined; model = d.model; goal = goal }
+with_goal d goal = record { names = d.names; variables = d.variables; equations = d.equations; model = d.model; goal = goal }
 
 abbrev pub aim_at : Draft → Sense → Lexeme → Option ℕ → Step
 aim_at d s t None = Err (Undeclared t.place)
@@ -370,13 +246,12 @@ after_all text d [] = Ok d
 after_all text d (s ∷ ss) = and_then (after text d s) (λ e. after_all text e ss)
 
 abbrev pub nothing_yet : Draft
-nothing_yet = record { names = []; variables = []; equations = []; defined = []; model = None; goal = None }
+nothing_yet = record { names = []; variables = []; equations = []; model = None; goal = None }
 
 -- ---- after the text
-abbrev pub undefined_from : ℕ → List Equation → List Bool → Option ModelFault
-undefined_from k [] defined = None
-undefined_from k (e ∷ es) [] = None
-undefined_from k (e ∷ es) (b ∷ bs) = cond b (undefined_from (k + 1) es bs) (Some (Undefined (record { at = k }) e.name))
+abbrev pub undefined_from : ℕ → List DraftEquation → Option ModelFault
+undefined_from k [] = None
+undefined_from k (e ∷ es) = cond (is_none e.definition) (Some (Undefined (record { at = k }) e.name)) (undefined_from (k + 1) es)
 
 -- the lower bound is above the upper bound, or plus infinity, or the upper bound is minus infinity
 abbrev pub crosses : Limit → Limit → Bool
@@ -400,19 +275,28 @@ abbrev pub finished_variables : List DraftVariable → List Variable
 finished_variables [] = []
 finished_variables (v ∷ vs) = (record { name = v.name; low = end_of v.low; high = end_of v.high }) ∷ finished_variables vs
 
+-- an equation with its definition; none where it has none
+abbrev pub finished_equation : List ℕ → Option Definition → List Equation
+finished_equation name None = []
+finished_equation name (Some d) = (record { name = name; left = d.left; right = d.right; relation = d.relation }) ∷ []
+
+abbrev pub finished_equations : List DraftEquation → List Equation
+finished_equations [] = []
+finished_equations (e ∷ es) = finished_equation e.name e.definition ++ finished_equations es
+
 abbrev pub or_empty : Option (List ℕ) → List ℕ
 or_empty None = []
 or_empty (Some bs) = bs
 
 abbrev pub finished : Draft → Model
-finished d = record { name = or_empty d.model; variables = finished_variables d.variables; equations = d.equations; goal = d.goal }
+finished d = record { name = or_empty d.model; variables = finished_variables d.variables; equations = finished_equations d.equations; goal = d.goal }
 
 abbrev pub finish_by : Option ModelFault → Draft → Result Model ModelFault
 finish_by (Some f) d = Err f
 finish_by None d = Ok (finished d)
 
 abbrev pub finish : Draft → Result Model ModelFault
-finish d = finish_by (or_else (undefined_from 0 d.equations d.defined) (crossing_from 0 d.variables)) d
+finish d = finish_by (or_else (undefined_from 0 d.equations) (crossing_from 0 d.variables)) d
 
 abbrev pub whole_meaning_by : Step → Result Model ModelFault
 whole_meaning_by (Err f) = Err f

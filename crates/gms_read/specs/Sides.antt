@@ -5,7 +5,7 @@ use Rattle.emp_ast.specs.declared.tree.Place.{Place}
 use Rattle.emp_ast.specs.declared.tree.Operator.{Operator}
 use Rattle.emp_ast.specs.declared.tree.Node.{Node}
 use Rattle.emp_ast.specs.declared.tree.Node.TheVariants.{Number as NumberNode, Var, Neg, Power}
-use Rattle.emp_ast.specs.Expression.{join_node}
+use Rattle.emp_ast.specs.Nodes.{join_node}
 use Rattle.gms_read.specs.declared.lexeme.Lexeme.{Lexeme}
 use Rattle.gms_read.specs.declared.lexeme.Sign.{Sign}
 use Rattle.gms_read.specs.declared.lexeme.Sign.TheVariants.{Plus, Minus}
@@ -16,7 +16,7 @@ use Rattle.gms_read.specs.declared.progress.Second.{Second}
 use Rattle.gms_read.specs.declared.progress.Second.TheVariants.{Absent, Awaited, Given}
 use Rattle.gms_read.specs.declared.progress.Side.{Side}
 use Rattle.gms_read.specs.declared.shape.Shape.TheVariants.{One}
-use Rattle.gms_read.specs.Rules.{exponent, or_zero, no_tree}
+use Rattle.gms_read.specs.Rules.{exponent, or_zero}
 use Rattle.gms_read.specs.Shapes.{shape_from, accepts}
 
 abbrev pub latest : List ℕ → ℕ
@@ -28,18 +28,19 @@ others [] = []
 others (r ∷ rs) = rs
 
 abbrev pub no_side : Side
-no_side = record { tree = no_tree; roots = []; second = Absent }
+no_side = record { nodes = []; places = []; roots = []; second = Absent }
 
 -- one node more, which is the root of an operand; `roots` are the other ones
 abbrev pub grown : Side → List ℕ → Node → Place → Side
 grown s roots node place = record {
-  tree = record { nodes = s.tree.nodes ++ node ∷ []; places = s.tree.places ++ place ∷ [] };
-  roots = length s.tree.nodes ∷ roots;
+  nodes = s.nodes ++ node ∷ [];
+  places = s.places ++ place ∷ [];
+  roots = length s.nodes ∷ roots;
   second = Absent;
 }
 
 abbrev pub with_second : Side → Second → Side
-with_second s second = record { tree = s.tree; roots = s.roots; second = second }
+with_second s second = record { nodes = s.nodes; places = s.places; roots = s.roots; second = second }
 
 -- a numeral is an operand, or the second argument of a power
 abbrev pub number_by : Side → Place → Frac → Second → Side

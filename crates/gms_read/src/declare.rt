@@ -1,13 +1,13 @@
 //! What declarations, definitions and settings do to a draft.
 ghost use Rattle.std.specs.Prelude.{◌≡◌, ◌<◌, length, None, Ok, MatchResult};
 ghost use Rattle.emp_num.specs.Whole.{whole};
-ghost use Rattle.gms_read.specs.Rules.{first_low, first_high, has_sign, no_tree, is_infinite, variable_in, equation_in, is_model_entry};
+ghost use Rattle.gms_read.specs.Rules.{first_low, first_high, has_sign, is_infinite, variable_in, equation_in, is_model_entry};
 
-use crate::draft::{Draft, DraftVariable, Limit};
+use crate::draft::{Definition, Draft, DraftEquation, DraftVariable, Limit};
 use crate::fault::ModelFault;
 use crate::lexeme::{Domain, Lexeme, Sort, Word};
 use crate::table::{Named, Table};
-use emp_ast::model::{Equation, Relation, Sense};
+use emp_ast::model::{Relation, Sense};
 use emp_ast::tree::{Place, Tree, VarId};
 use emp_list::name::Name;
 use emp_list::seq::Seq;
@@ -60,16 +60,6 @@ fn is_infinite(limit: Limit) -> bool
     }
 }
 
-/// The tree of an equation that is not defined.
-pub fn no_tree(alloc: Global) -> Tree
-    ensures { result ≡ no_tree }
-{
-    Tree {
-        nodes: Seq::new(alloc),
-        places: Seq::new(alloc),
-    }
-}
-
 /// The number of the variable that a name is declared as.
 pub fn variable_in(found: Option<Named>) -> Option<u32>
     ensures { result ≡ variable_in found }
@@ -108,8 +98,8 @@ fn is_model(found: Option<Named>) -> bool
 #[tactic(auto, using(crate::proofs::Declaring::declaring))]
 impl Draft {
     ghost use Rattle.gms_read.specs.declared.fault.ModelFault.TheVariants.{NoMemory};
-    ghost use Rattle.gms_read.specs.Rules.{nothing_yet, declared_as, add_variable, restrict, declare_variable, add_equation, declare_equation, declare_model, is_defined, with_low, with_high, set_variable, set_by, aim_at, variable_of};
-    ghost use Rattle.gms_read.specs.Performing.{Does, with_trees, solved};
+    ghost use Rattle.gms_read.specs.Rules.{nothing_yet, declared_as, add_variable, restrict, declare_variable, add_equation, declare_equation, declare_model, is_defined, with_sides, with_low, with_high, set_variable, set_by, aim_at, variable_of};
+    ghost use Rattle.gms_read.specs.Performing.{Does, define_by, solved};
 
     /// Nothing is declared yet.
     pub fn new(alloc: Global) -> Draft
@@ -119,7 +109,6 @@ impl Draft {
             names: Table::new(alloc),
             variables: Seq::new(alloc),
             equations: Seq::new(alloc),
-            defined: Seq::new(alloc),
             model: None,
             goal: None,
         }
@@ -214,13 +203,10 @@ impl Draft {
         let name = Name::of(alloc, lexeme.spelling(text))?;
         self.names
             .add(alloc, lexeme.spelling(text), Named::Equation(number))?;
-        self.equations.push(Equation {
+        self.equations.push(DraftEquation {
             name,
-            left: no_tree(alloc),
-            right: no_tree(alloc),
-            relation: Relation::Nothing,
+            definition: None,
         })?;
-        self.defined.push(false)?;
         Ok(())
     }
 
@@ -271,23 +257,44 @@ impl Draft {
         ensures { result ≡ is_defined self.now number }
     {
         let at = number as usize;
-        at < self.defined.len() && *self.defined.get(at)
+        at < self.equations.len() && self.equations.get(at).definition.is_some()
     }
 
     /// Defines the equation of that number.
-    pub fn define(&mut self, number: u32, left: Tree, relation: Relation, right: Tree)
-        ensures { self.new ≡ with_trees self.old number left relation right }
+    fn define(&mut self, number: u32, definition: Definition)
+        ensures { self.new ≡ with_sides self.old number definition }
     {
         let at = number as usize;
         if at < self.equations.len() {
             let equation = self.equations.get_mut(at);
-            equation.left = left;
-            equation.right = right;
-            equation.relation = relation;
+            equation.definition = Some(definition);
         }
-        if at < self.defined.len() {
-            self.defined.set(at, true);
-        }
+    }
+
+    /// Defines the equation of that number, where both sides are expressions.
+    pub fn define_by(
+        &mut self,
+        number: u32,
+        left: Option<Tree>,
+        relation: Relation,
+        right: Option<Tree>,
+    )
+        ensures { self.new ≡ define_by self.old number left relation right }
+    {
+        let Some(left) = left else {
+            return;
+        };
+        let Some(right) = right else {
+            return;
+        };
+        self.define(
+            number,
+            Definition {
+                left,
+                relation,
+                right,
+            },
+        );
     }
 
     fn set_low(&mut self, number: u32, limit: Limit)

@@ -4,6 +4,7 @@ ghost use Rattle.gms_read.specs.declared.fault.ModelFault.TheVariants.{NoMemory}
 
 use emp_ast::tree::{EquId, Place, VarId};
 use emp_lex::fault::LexFault;
+use emp_list::memory;
 use emp_list::name::Name;
 use std::alloc::{AllocError, AllocFailed};
 
@@ -45,6 +46,14 @@ impl<T: Drop> From<AllocFailed<T>> for ModelFault {
     ghost from_gives = { λ _ e. e ≡ NoMemory };
 
     fn from(_error: AllocFailed<T>) -> Self {
+        ModelFault::NoMemory
+    }
+}
+
+impl From<memory::NoMemory> for ModelFault {
+    ghost from_gives = { λ _ e. e ≡ NoMemory };
+
+    fn from(_error: memory::NoMemory) -> Self {
         ModelFault::NoMemory
     }
 }

@@ -1,10 +1,10 @@
 //! From a draft to a model.
 ghost use Rattle.std.specs.Prelude.{◌≡◌, int_lt, ◌*ℤ◌, IfOk, MatchResult};
 ghost use Rattle.gms_read.specs.declared.fault.ModelFault.TheVariants.{NoMemory};
-ghost use Rattle.gms_read.specs.Rules.{undefined_from, crosses, crossing_from, end_of, finished_variables, or_empty, finish};
+ghost use Rattle.gms_read.specs.Rules.{undefined_from, crosses, crossing_from, end_of, finished_variables, finished_equations, or_empty, finish};
 ghost use Rattle.gms_read.specs.Steps.{FinishesAs};
 
-use crate::draft::{Draft, DraftVariable, Limit};
+use crate::draft::{Draft, DraftEquation, DraftVariable, Limit};
 use crate::fault::ModelFault;
 use emp_ast::model::{End, Equation, Model, Variable};
 use emp_ast::tree::{EquId, VarId};
@@ -24,14 +24,13 @@ fn number(at: usize) -> Result<u32, ModelFault>
 #[tactic(auto, using(crate::proofs::Finishes::defining))]
 fn undefined_fault(
     alloc: Global,
-    equations: &[Equation],
-    defined: &[bool],
+    equations: &[DraftEquation],
 ) -> Result<Option<ModelFault>, ModelFault>
-    ensures { MatchResult result (λ f. f ≡ undefined_from 0 equations.now defined.now) (λ f. f ≡ NoMemory) }
+    ensures { MatchResult result (λ f. f ≡ undefined_from 0 equations.now) (λ f. f ≡ NoMemory) }
 {
-    for at in 0..equations.len().min(defined.len()) {
-        if !defined[at] {
-            let name = Name::of(alloc, equations[at].name.as_bytes())?;
+    for (at, equation) in equations.iter().enumerate() {
+        if equation.definition.is_none() {
+            let name = Name::of(alloc, equation.name.as_bytes())?;
             let equation = EquId { at: number(at)? };
             return Ok(Some(ModelFault::Undefined(equation, name)));
         }
@@ -105,6 +104,29 @@ fn finished_variables(
     Ok(finished)
 }
 
+/// The equations with their definitions. One that is not defined is left out.
+#[tactic(auto, using(crate::proofs::Finishes::collecting))]
+fn finished_equations(
+    alloc: Global,
+    equations: Seq<DraftEquation>,
+) -> Result<Seq<Equation>, AllocError>
+    ensures { IfOk result (λ v. v ≡ finished_equations equations) }
+{
+    let mut finished = Seq::new(alloc);
+    for equation in equations.into_items() {
+        let DraftEquation { name, definition } = equation;
+        if let Some(definition) = definition {
+            finished.push(Equation {
+                name,
+                left: definition.left,
+                right: definition.right,
+                relation: definition.relation,
+            })?;
+        }
+    }
+    Ok(finished)
+}
+
 /// The model's name, and an empty one where there is none.
 fn or_empty(alloc: Global, name: Option<Name>) -> Result<Name, AllocError>
     ensures { IfOk result (λ n. n ≡ or_empty name) }
@@ -119,19 +141,19 @@ fn or_empty(alloc: Global, name: Option<Name>) -> Result<Name, AllocError>
 pub fn finish(alloc: Global, draft: Draft) -> Result<Model, ModelFault>
     ensures { FinishesAs (finish draft) result }
 {
-    let undefined = undefined_fault(alloc, draft.equations.as_slice(), draft.defined.as_slice())?;
-    if let Some(fault) = undefined {
+    if let Some(fault) = undefined_fault(alloc, draft.equations.as_slice())? {
         return Err(fault);
     }
     if let Some(fault) = crossing_fault(alloc, draft.variables.as_slice())? {
         return Err(fault);
     }
     let variables = finished_variables(alloc, draft.variables.as_slice())?;
+    let equations = finished_equations(alloc, draft.equations)?;
     let name = or_empty(alloc, draft.model)?;
     Ok(Model {
         name,
         variables,
-        equations: draft.equations,
+        equations,
         goal: draft.goal,
     })
 }

@@ -1,10 +1,10 @@
 //! From items to a draft, rule by rule.
-ghost use Rattle.std.specs.Prelude.{◌≡◌};
+ghost use Rattle.std.specs.Prelude.{◌≡◌, Ok};
 ghost use Rattle.gms_read.specs.Steps.{DraftsAll};
 ghost use Rattle.gms_read.specs.Rules.{nothing_yet};
 ghost use Rattle.gms_read.specs.Performing.{Does, idle, item_step, begun, begun_variables, related, ended};
 
-use crate::declare::{equation_in, no_tree, variable_in};
+use crate::declare::{equation_in, variable_in};
 use crate::draft::Draft;
 use crate::fault::ModelFault;
 use crate::item::Item;
@@ -22,7 +22,7 @@ impl Progress {
         Progress {
             draft: Draft::new(alloc),
             equation: 0,
-            left: no_tree(alloc),
+            left: Side::new(alloc),
             relation: Relation::Nothing,
             side: Side::new(alloc),
         }
@@ -60,21 +60,21 @@ impl Progress {
     fn relate(&mut self, alloc: Global, relation: Relation)
         ensures { self.new ≡ related self.old relation }
     {
-        let side = std::mem::replace(&mut self.side, Side::new(alloc));
-        self.left = side.tree;
+        self.left = std::mem::replace(&mut self.side, Side::new(alloc));
         self.relation = relation;
     }
 
     /// The right side ends.
-    fn end(&mut self, alloc: Global)
-        ensures { self.new ≡ ended self.old }
+    fn end(&mut self, alloc: Global) -> Result<(), ModelFault>
+        ensures { Does result self.new (Ok (ended self.old)) }
     {
-        let left = std::mem::replace(&mut self.left, no_tree(alloc));
-        let side = std::mem::replace(&mut self.side, Side::new(alloc));
+        let left = std::mem::replace(&mut self.left, Side::new(alloc)).tree(alloc)?;
+        let right = std::mem::replace(&mut self.side, Side::new(alloc)).tree(alloc)?;
         self.draft
-            .define(self.equation, left, self.relation, side.tree);
+            .define_by(self.equation, left, self.relation, right);
         self.equation = 0;
         self.relation = Relation::Nothing;
+        Ok(())
     }
 
     /// Performs an item; `rest` are the items behind it.
@@ -98,10 +98,7 @@ impl Progress {
                 self.relate(alloc, relation);
                 Ok(())
             }
-            Item::Ends => {
-                self.end(alloc);
-                Ok(())
-            }
+            Item::Ends => self.end(alloc),
             Item::Number(lexeme, value) => self.side.number(lexeme, value),
             Item::Name(lexeme) => {
                 let found = variable_in(self.draft.declared_as(alloc, text, lexeme)?);

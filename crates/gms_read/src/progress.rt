@@ -2,7 +2,8 @@
 use crate::draft::Draft;
 use crate::roots::Roots;
 use emp_ast::model::Relation;
-use emp_ast::tree::Tree;
+use emp_ast::tree::{Node, Place};
+use emp_list::seq::Seq;
 
 /// The second argument of a function.
 #[derive(Clone, Copy, Debug)]
@@ -18,7 +19,9 @@ pub enum Second {
 /// A side of an equation as far as it is read.
 #[derive(Drop)]
 pub struct Side {
-    pub tree: Tree,
+    /// The nodes of its operands in postorder, and the place of each.
+    pub nodes: Seq<Node>,
+    pub places: Seq<Place>,
     /// The roots of the operands that nothing joins yet.
     pub roots: Roots,
     pub second: Second,
@@ -31,7 +34,7 @@ pub struct Progress {
     /// The equation that is being defined.
     pub equation: u32,
     /// Its left side, and how it stands to the right one, once these are read.
-    pub left: Tree,
+    pub left: Side,
     pub relation: Relation,
     /// The side that is being read.
     pub side: Side,

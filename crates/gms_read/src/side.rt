@@ -1,19 +1,21 @@
 //! What the items of an expression add to a side of an equation.
-ghost use Rattle.std.specs.Prelude.{◌≡◌, Ok, MatchResult};
-ghost use Rattle.emp_ast.specs.Expression.{join_node};
+ghost use Rattle.std.specs.Prelude.{◌≡◌, Ok, IfOk, MatchResult};
+ghost use Rattle.emp_ast.specs.Nodes.{join_node};
+ghost use Rattle.emp_ast.specs.Trees.{tree_from};
 ghost use Rattle.gms_read.specs.declared.fault.ModelFault.TheVariants.{NoMemory};
 ghost use Rattle.gms_read.specs.Rules.{exponent};
 ghost use Rattle.gms_read.specs.Performing.{Does};
 ghost use Rattle.gms_read.specs.Sides.{no_side, grown, number_by, name_by, raised_to, raise_by, signed_by, joined_by, entered, exponent_of};
 
-use crate::declare::no_tree;
 use crate::fault::ModelFault;
 use crate::item::Item;
 use crate::lexeme::{Lexeme, Sign};
 use crate::progress::{Second, Side};
 use crate::roots::Roots;
 use crate::shape::{accepts, arguments_shape, exponent};
-use emp_ast::tree::{Node, Operator, Place, VarId};
+use emp_ast::tree::{Node, Operator, Place, Tree, VarId};
+use emp_list::memory;
+use emp_list::seq::Seq;
 use emp_num::frac::Frac;
 use std::alloc::Global;
 
@@ -44,7 +46,8 @@ impl Side {
         ensures { result ≡ no_side }
     {
         Side {
-            tree: no_tree(alloc),
+            nodes: Seq::new(alloc),
+            places: Seq::new(alloc),
             roots: Roots::new(alloc),
             second: Second::Absent,
         }
@@ -54,9 +57,9 @@ impl Side {
     fn grow(&mut self, node: Node, place: Place) -> Result<(), ModelFault>
         ensures { Does result self.new (Ok (grown self.old self.old.roots node place)) }
     {
-        let number = as_number(self.tree.nodes.len())?;
-        self.tree.nodes.push(node)?;
-        self.tree.places.push(place)?;
+        let number = as_number(self.nodes.len())?;
+        self.nodes.push(node)?;
+        self.places.push(place)?;
         self.roots.push(number)?;
         self.second = Second::Absent;
         Ok(())
@@ -146,5 +149,12 @@ impl Side {
         let right = self.roots.take();
         let left = self.roots.take();
         self.grow(join_node(operator, left, right), lexeme.place)
+    }
+
+    /// The tree of all that is read, where it is one expression.
+    pub fn tree(self, alloc: Global) -> Result<Option<Tree>, memory::NoMemory>
+        ensures { IfOk result (λ t. t ≡ tree_from self.nodes self.places) }
+    {
+        Tree::of(alloc, self.nodes, self.places)
     }
 }
