@@ -9,7 +9,5 @@ pub mod laws;
 pub mod lexer;
 pub mod piece;
 pub mod scan;
-#[cfg(test)]
-mod tests;
 pub mod token;
 pub mod word;
