@@ -1,0 +1,6 @@
+pub mod Words
+pub mod Lines
+pub mod Course
+pub mod Requests
+pub mod Refusals
+pub mod Deliveries
