@@ -4,7 +4,7 @@ pub mod NumeralForms
 pub mod LongestNumeral
 pub mod TokenForms
 pub mod TokenBytes
-pub mod LongestToken
+pub mod Longest
 pub mod Trims
 pub mod Lexing
 pub mod WordLists

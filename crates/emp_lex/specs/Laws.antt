@@ -1,12 +1,13 @@
 -- What the layers above know of tokens.
-use Rattle.std.specs.Prelude.{◌≡◌, ℕ, ◌≤◌, Bool, true, List, ◌++◌, length, All}
-use Rattle.emp_num.specs.Numeral.{numeral_form}
+use Rattle.std.specs.Prelude.{◌≡◌, ℕ, ◌≤◌, Bool, List, ◌++◌, length, All}
 use Rattle.emp_lex.specs.declared.token.Token.{Token}
-use Rattle.emp_lex.specs.declared.token.TokenKind.TheVariants.{Numeral}
-use Rattle.emp_lex.specs.declared.piece.Step.TheVariants.{Take}
+use Rattle.emp_lex.specs.declared.token.TokenKind.{TokenKind}
+use Rattle.emp_lex.specs.declared.piece.Step.TheVariants.{Skip, Take, Stop}
+use Rattle.emp_lex.specs.declared.piece.Defect.TheVariants.{BadByte}
 use Rattle.emp_lex.specs.declared.fault.LexFault.{LexFault}
 use Rattle.emp_lex.specs.Tokens.{IsTokenList, IsFirstFault}
-use Rattle.emp_lex.specs.Forms.{IsFormed}
+use Rattle.emp_lex.specs.Forms.{HasForm, IsFormed}
+use Rattle.emp_lex.specs.Passed.{IsPassed}
 use Rattle.emp_lex.specs.Pieces.{step}
 
 -- a text has one list of tokens or one first fault, and not both
@@ -19,6 +20,11 @@ pub record OneReading : Type 0 where
 pub record TokensHaveForms : Type 0 where
   pub formed : (text : List ℕ) (ts : List Token) → IsTokenList text ts → All (IsFormed text) ts
 
--- where a numeral is taken, no longer one stands at the head of the text
-pub record NumeralsAreLongest : Type 0 where
-  pub longest : (begins : Bool) (text : List ℕ) (n : ℕ) → step begins text ≡ Take Numeral n → (p bs : List ℕ) → text ≡ p ++ bs → numeral_form p ≡ true → length p ≤ n
+-- what is passed over are blanks, comments, listed dollar lines and blocks
+pub record OnlyNothingIsPassed : Type 0 where
+  pub passed : (begins : Bool) (text : List ℕ) (n : ℕ) → step begins text ≡ Skip n → IsPassed begins text n
+
+-- where a token is taken, none that the text begins with is longer; where a byte is bad, the text begins with none
+pub record TokensAreLongest : Type 0 where
+  pub longest : (begins : Bool) (text : List ℕ) (kind : TokenKind) (n : ℕ) → step begins text ≡ Take kind n → (k : TokenKind) (p bs : List ℕ) → text ≡ p ++ bs → HasForm k p → length p ≤ n
+  pub none : (begins : Bool) (text : List ℕ) → step begins text ≡ Stop BadByte → (k : TokenKind) (p bs : List ℕ) → text ≡ p ++ bs → HasForm k p → ⊥

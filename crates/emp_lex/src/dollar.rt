@@ -15,6 +15,7 @@ pub enum Directive {
     Begins,
     /// The line ends a block.
     Ends,
+    /// Any other line, which is a fault.
     Unknown,
 }
 

@@ -18,6 +18,7 @@ pub enum LexFault {
     Dollar(Place),
     /// A numeral with a value that is too wide.
     Number(Place),
+    /// There was no memory; this says nothing of the text.
     NoMemory,
 }
 

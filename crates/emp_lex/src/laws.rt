@@ -1,7 +1,7 @@
 //! What the definitions say of every text, for the layers above.
 //!
 //! No function here runs.
-ghost use Rattle.emp_lex.specs.Laws.{NumeralsAreLongest, OneReading, TokensHaveForms};
+ghost use Rattle.emp_lex.specs.Laws.{OneReading, OnlyNothingIsPassed, TokensAreLongest, TokensHaveForms};
 
 /// A text has one list of tokens or one first fault, and not both.
 pub fn one_reading()
@@ -13,7 +13,12 @@ pub fn tokens_have_forms()
     ensures { TokensHaveForms }
 {}
 
-/// Where a numeral is taken, no longer one stands at the head of the text.
-pub fn numerals_are_longest()
-    ensures { NumeralsAreLongest }
+/// What is passed over between tokens are blanks, comments, listed dollar lines and blocks.
+pub fn only_nothing_is_passed()
+    ensures { OnlyNothingIsPassed }
+{}
+
+/// Where a token is taken, none that the text begins with is longer; where a byte is bad, the text begins with none.
+pub fn tokens_are_longest()
+    ensures { TokensAreLongest }
 {}

@@ -17,17 +17,24 @@ const LONGEST_NAME: usize = 63;
 /// What is wrong at a place.
 #[derive(Clone, Copy, Debug, PartialEq, Eq)]
 pub enum Defect {
+    /// A byte that begins no token, or a quote without its end on the line.
     BadByte,
+    /// A name of more than 63 bytes.
     LongName,
+    /// A block without an end.
     OpenBlock,
+    /// A dollar line that is not among those that are read.
     Dollar,
 }
 
 /// What a text begins with: bytes that are skipped, the bytes of a token, or a fault.
 #[derive(Clone, Copy, Debug, PartialEq, Eq)]
 pub enum Step {
+    /// So many bytes are passed over.
     Skip(usize),
+    /// A token of so many bytes.
     Take(TokenKind, usize),
+    /// A fault.
     Stop(Defect),
 }
 

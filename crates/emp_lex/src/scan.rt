@@ -8,6 +8,7 @@ ghost use Rattle.emp_lex.specs.Bytes.{is_letter, is_digit, is_blank, is_gap, is_
 pub enum Class {
     /// Letters, digits and `_`.
     Word,
+    /// Digits.
     Digit,
     /// All bytes but the end of a line.
     Line,
@@ -17,48 +18,56 @@ pub enum Class {
     Quoted(u8),
 }
 
+/// Whether the byte is a letter of ASCII.
 pub fn is_letter(b: u8) -> bool
     ensures { result ≡ is_letter b }
 {
     matches!(b, b'A'..=b'Z' | b'a'..=b'z')
 }
 
+/// Whether the byte is a digit of ASCII.
 pub fn is_digit(b: u8) -> bool
     ensures { result ≡ is_digit b }
 {
     matches!(b, b'0'..=b'9')
 }
 
+/// Whether the byte parts tokens: a space, a tab, CR or LF.
 pub fn is_blank(b: u8) -> bool
     ensures { result ≡ is_blank b }
 {
     matches!(b, b' ' | b'\t' | b'\r' | b'\n')
 }
 
+/// Whether the byte is a space or a tab.
 pub fn is_gap(b: u8) -> bool
     ensures { result ≡ is_gap b }
 {
     matches!(b, b' ' | b'\t')
 }
 
+/// Whether the byte is dropped at the end of a dollar line: a space, a tab or CR.
 pub fn is_trail(b: u8) -> bool
     ensures { result ≡ is_trail b }
 {
     matches!(b, b' ' | b'\t' | b'\r')
 }
 
+/// Whether the byte is `e` or `E`.
 pub fn is_exponent_mark(b: u8) -> bool
     ensures { result ≡ is_exponent_mark b }
 {
     matches!(b, b'e' | b'E')
 }
 
+/// Whether the byte is `+` or `-`.
 pub fn is_sign(b: u8) -> bool
     ensures { result ≡ is_sign b }
 {
     matches!(b, b'+' | b'-')
 }
 
+/// Whether the byte is the letter of a relation, `e`, `g`, `l` or `n`, without case.
 pub fn is_relation_letter(b: u8) -> bool
     ensures { result ≡ is_relation_letter b }
 {
@@ -75,12 +84,14 @@ pub fn is_single(b: u8) -> bool
     )
 }
 
+/// The byte, a capital letter of ASCII as a small one.
 pub fn lower_byte(b: u8) -> u8
     ensures { result ≡ lower_byte b }
 {
     if matches!(b, b'A'..=b'Z') { b + 32 } else { b }
 }
 
+/// Whether the byte is of the class.
 pub fn is_of(class: Class, b: u8) -> bool
     ensures { result ≡ is_of class b }
 {

@@ -3,12 +3,18 @@ ghost use Rattle.std.specs.Prelude.{◌≡◌, slice_range};
 
 use emp_ast::tree::Place;
 
+/// What a token is. The forms stand in `specs/Forms.antt`.
 #[derive(Clone, Copy, Debug, PartialEq, Eq)]
 pub enum TokenKind {
+    /// A letter, then letters, digits and `_`, at most 63 bytes.
     Name,
+    /// Digits with at most one point, and an exponent or none.
     Numeral,
+    /// Bytes of one line between two equal quotes.
     Text,
+    /// `=e=`, `=g=`, `=l=` or `=n=`, without case.
     Relation,
+    /// `**`, `..` or a single sign.
     Symbol,
 }
 
