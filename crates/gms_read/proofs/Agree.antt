@@ -1,16 +1,13 @@
 -- The machine and the grammar agree.
-use Rattle.std.proofs.Common.{◌≡◌, ◌<◌, ◌≤◌, ℕ, suc, Bool, true, false, cond, List, [], ◌∷◌, Option, Some, None, inr, refl, sym, ap, ◌∙◌, drop, get_or, length, drop-cons}
-use Rattle.std.proofs.lemmas.List.{at_drop_all}
-use Rattle.emp_ast.specs.declared.tree.Place.{Place}
-use Rattle.gms_read.specs.declared.fault.ModelFault.TheVariants.{Syntax}
+use Rattle.std.proofs.Common.{◌≡◌, List, [], ◌∷◌, Option, Some, None, sym, ◌∙◌}
 use Rattle.gms_read.specs.declared.lexeme.Lexeme.{Lexeme}
 use Rattle.gms_read.specs.declared.item.Item.{Item}
-use Rattle.gms_read.specs.declared.symbol.Symbol.{Symbol}
 use Rattle.gms_read.specs.declared.symbol.Symbol.TheVariants.{File}
 use Rattle.gms_read.specs.Grammar.{Statement, IsFile}
 use Rattle.gms_read.specs.Items.{items_of}
-use Rattle.gms_read.specs.Steps.{AreItems, StandsForNone, RefusesLexemes}
-use Rattle.gms_read.specs.Machine.{run, run_from, step, is_over}
+use Rattle.gms_read.specs.Syntax.{StandsForNone}
+use Rattle.gms_read.specs.Steps.{AreItems}
+use Rattle.gms_read.specs.Machine.{run}
 use Rattle.gms_read.proofs.Writing.{runs, reads}
 use Rattle.gms_read.proofs.Meanings.{sound}
 use Rattle.gms_read.proofs.Complete.{file_read}
@@ -32,25 +29,8 @@ accepted ts v e =
     let s = sound r.writes in
     record { statements = s.statements; file = s.file; are = r.same ∙ s.are }
 
-none_some : (v : List Item) (o : Option (List Item)) → o ≡ None → o ≡ Some v → ⊥
+pub none_some : (v : List Item) (o : Option (List Item)) → o ≡ None → o ≡ Some v → ⊥
 none_some v o e f = cc
 
 pub refused : (ts : List Lexeme) → reading ts ≡ None → StandsForNone ts
 refused ts e ss h = none_some (items_of ss) (reading ts) e (runs [] (file_read h))
-
--- ---- the loop's ends
-refuses : (ts : List Lexeme) (p : Place) → reading ts ≡ None → RefusesLexemes ts (Syntax p)
-refuses ts p e = inr (p, refl, refused ts e)
-
-pub lexeme_refused : (ts : List Lexeme) (i : ℕ) (s : List Symbol) (out : List Item) (t : Lexeme) (p : Place) → i < length ts → t ≡ get_or ts i t → run s out (drop i ts) ≡ reading ts → step s out t ≡ None → RefusesLexemes ts (Syntax p)
-lexeme_refused ts i s out t p within e h none =
-    refuses ts p (sym h ∙ (ap (run s out) (drop-cons ts i t within ∙ ap (λ x. x ∷ drop (suc i) ts) (sym e)) ∙ ap (λ q. run_from q (drop (suc i) ts)) none))
-
-at_end : (ts : List Lexeme) (i : ℕ) (s : List Symbol) (out : List Item) (b : Bool) → length ts ≤ i → run s out (drop i ts) ≡ reading ts → is_over s ≡ b → reading ts ≡ cond b (Some out) None
-at_end ts i s out b past h e = sym h ∙ (at_drop_all (run s out) ts i past ∙ ap (λ b. cond b (Some out) None) e)
-
-pub end_accepted : (ts : List Lexeme) (i : ℕ) (s : List Symbol) (out : List Item) → length ts ≤ i → run s out (drop i ts) ≡ reading ts → is_over s ≡ true → AreItems ts out
-end_accepted ts i s out past h e = accepted ts out (at_end ts i s out true past h e)
-
-pub end_refused : (ts : List Lexeme) (i : ℕ) (s : List Symbol) (out : List Item) (p : Place) → length ts ≤ i → run s out (drop i ts) ≡ reading ts → is_over s ≡ false → RefusesLexemes ts (Syntax p)
-end_refused ts i s out p past h e = refuses ts p (at_end ts i s out false past h e)

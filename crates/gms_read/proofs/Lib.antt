@@ -1,6 +1,7 @@
 pub mod Agree
 pub mod Arguments
 pub mod Complete
+pub mod Completing
 pub mod Declaring
 pub mod Expressions
 pub mod Finishes
@@ -10,6 +11,7 @@ pub mod Meanings
 pub mod OneMeaning
 pub mod OneText
 pub mod Performed
+pub mod Places
 pub mod Reading
 pub mod Sorts
 pub mod Stacks

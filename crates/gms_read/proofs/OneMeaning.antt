@@ -1,16 +1,22 @@
--- A text stands for one model or has a fault, and not both.
-use Rattle.std.proofs.Common.{◌≡◌, ℕ, inl, inr, List, None, Some, Result, Ok, Err, refl, sym, ap, subst, ◌∙◌}
+-- A text stands for one model or has one fault, and not both.
+use Rattle.std.proofs.Common.{◌≡◌, ℕ, inl, inr, List, Option, None, Some, Result, Ok, Err, refl, sym, ap, subst, ◌∙◌}
 use Rattle.emp_ast.specs.declared.tree.Place.{Place}
 use Rattle.emp_ast.specs.declared.model.Model.{Model}
+use Rattle.emp_lex.specs.declared.fault.LexFault.{LexFault}
+use Rattle.emp_lex.specs.Tokens.{IsFirstFault, past, start}
+use Rattle.emp_lex.proofs.Lexing.{one_fault as one_token_fault}
+use Rattle.gms_read.specs.declared.lexeme.Lexeme.{Lexeme}
 use Rattle.gms_read.specs.declared.fault.ModelFault.{ModelFault}
 use Rattle.gms_read.specs.declared.fault.ModelFault.TheVariants.{Lex, Syntax, Undeclared, Twice, Discrete, Attribute, Function, TooLarge, Undefined, BoundsCross, NoMemory}
 use Rattle.gms_read.specs.Nesting.{too_deep}
 use Rattle.gms_read.specs.Grammar.{Statement, IsFile}
+use Rattle.gms_read.specs.Syntax.{IsWrongAt}
 use Rattle.gms_read.specs.Rules.{whole_meaning, whole_meaning_by}
-use Rattle.gms_read.specs.Texts.{HasStatements, Gives, IsModelText, IsTooDeep, RefusesModel}
+use Rattle.gms_read.specs.Texts.{HasLexemes, HasStatements, Gives, IsModelText, IsTooDeep, IsUngrammatical, HasFault}
 use Rattle.gms_read.specs.Laws.{OneModel}
 use Rattle.gms_read.proofs.OneText.{one_lexemes, none_with_fault}
 use Rattle.gms_read.proofs.Agree.{one_items}
+use Rattle.gms_read.proofs.Places.{one_place, not_wrong}
 use Rattle.gms_read.proofs.Performed.{same_drafts}
 
 one_meaning_of : (text : List ℕ) (ss us : List Statement) → HasStatements text ss → HasStatements text us → whole_meaning text ss ≡ whole_meaning text us
@@ -25,34 +31,80 @@ one_meaning text r q g h = sym g.is ∙ one_meaning_of text g.statements h.state
 abbrev given : Model → Result Model ModelFault
 given m = Ok m
 
+abbrev refused : ModelFault → Result Model ModelFault
+refused f = Err f
+
 ok_one : (m n : Model) → given m ≡ given n → m ≡ n
 ok_one m n e = cc
 
-module _ (text : List ℕ) (m : Model) (g : IsModelText text m) where
-  no_fault : (f h : ModelFault) → Gives text (Err f) → h ≡ NoMemory
-  no_fault f h k = let e = one_meaning text (Ok m) (Err f) g k in cc
+err_one : (f g : ModelFault) → refused f ≡ refused g → f ≡ g
+err_one f g e = cc
 
-  not_deep : (p : Place) (h : ModelFault) → IsTooDeep text p → h ≡ NoMemory
-  not_deep p h k =
-      let e = one_lexemes text k.lexemes g.has.lexemes k.has g.has.has in
-      let d : None ≡ Some p = sym g.has.level ∙ ap too_deep (sym e) ∙ k.is in
-      cc
+ok_err : (m : Model) (f : ModelFault) → given m ≡ refused f → ⊥
+ok_err m f e = cc
 
-  not_both : (f : ModelFault) → RefusesModel text f → f ≡ NoMemory
-  not_both (Lex f) h = absurd (none_with_fault text g.has.lexemes f g.has.has h)
-  not_both (Syntax p) h =
-      let e = one_lexemes text g.has.lexemes h.lexemes g.has.has h.has in
-      absurd (h.none g.statements (subst (λ ts. IsFile ts g.statements) e g.has.file))
-  not_both (Undeclared p) h = no_fault (Undeclared p) (Undeclared p) h
-  not_both (Twice p) h = no_fault (Twice p) (Twice p) h
-  not_both (Discrete p) h = no_fault (Discrete p) (Discrete p) h
-  not_both (Attribute p) h = no_fault (Attribute p) (Attribute p) h
-  not_both (Function p) h = no_fault (Function p) (Function p) h
-  not_both (TooLarge p) (inl h) = not_deep p (TooLarge p) h
-  not_both (TooLarge p) (inr h) = no_fault (TooLarge p) (TooLarge p) h
-  not_both (Undefined e n) h = no_fault (Undefined e n) (Undefined e n) h
-  not_both (BoundsCross v n) h = no_fault (BoundsCross v n) (BoundsCross v n) h
-  not_both NoMemory h = refl
+some_one : (p q : Place) → Some p ≡ Some q → p ≡ q
+some_one p q e = cc
+
+none_some : (p : Place) (o : Option Place) → o ≡ None → o ≡ Some p → ⊥
+none_some p o e h = cc
+
+-- ---- the layers that find faults
+data View (text : List ℕ) (f : ModelFault) : Type 0 where
+  of_tokens : (g : LexFault) → f ≡ Lex g → IsFirstFault text g → View text f
+  of_levels : (p : Place) → f ≡ TooLarge p → IsTooDeep text p → View text f
+  of_grammar : (p : Place) → f ≡ Syntax p → IsUngrammatical text p → View text f
+  of_rules : Gives text (Err f) → View text f
+
+view : (text : List ℕ) (f : ModelFault) → HasFault text f → View text f
+view text (Lex g) h = of_tokens g refl h
+view text (Syntax p) h = of_grammar p refl h
+view text (Undeclared p) h = of_rules h
+view text (Twice p) h = of_rules h
+view text (Discrete p) h = of_rules h
+view text (Attribute p) h = of_rules h
+view text (Function p) h = of_rules h
+view text (TooLarge p) (inl h) = of_levels p refl h
+view text (TooLarge p) (inr h) = of_rules h
+view text (Undefined e n) h = of_rules h
+view text (BoundsCross v n) h = of_rules h
+view text NoMemory h = absurd h
+
+module _ (text : List ℕ) where
+  levels : (ts us : List Lexeme) (p : Place) → HasLexemes text ts → HasLexemes text us → too_deep ts ≡ Some p → too_deep us ≡ None → ⊥
+  levels ts us p g h e n = none_some p (too_deep us) n (ap too_deep (one_lexemes text us ts h g) ∙ e)
+
+  wrong : (p : Place) (ss : List Statement) → IsUngrammatical text p → HasStatements text ss → ⊥
+  wrong p ss h k = not_wrong k.lexemes ss (past start text) p k.file (subst (λ ts. IsWrongAt ts (past start text) p) (one_lexemes text h.lexemes k.lexemes h.has k.has) h.wrong)
+
+  same : (f g : ModelFault) → View text f → View text g → f ≡ g
+  same f g (of_tokens a e h) (of_tokens b i k) = e ∙ ap Lex (one_token_fault text a b h k) ∙ sym i
+  same f g (of_tokens a e h) (of_levels q i k) = absurd (none_with_fault text k.lexemes a k.has h)
+  same f g (of_tokens a e h) (of_grammar q i k) = absurd (none_with_fault text k.lexemes a k.has h)
+  same f g (of_tokens a e h) (of_rules k) = absurd (none_with_fault text k.has.lexemes a k.has.has h)
+  same f g (of_levels p e h) (of_tokens b i k) = absurd (none_with_fault text h.lexemes b h.has k)
+  same f g (of_levels p e h) (of_levels q i k) = e ∙ ap TooLarge (some_one p q (sym h.is ∙ ap too_deep (one_lexemes text h.lexemes k.lexemes h.has k.has) ∙ k.is)) ∙ sym i
+  same f g (of_levels p e h) (of_grammar q i k) = absurd (levels h.lexemes k.lexemes p h.has k.has h.is k.level)
+  same f g (of_levels p e h) (of_rules k) = absurd (levels h.lexemes k.has.lexemes p h.has k.has.has h.is k.has.level)
+  same f g (of_grammar p e h) (of_tokens b i k) = absurd (none_with_fault text h.lexemes b h.has k)
+  same f g (of_grammar p e h) (of_levels q i k) = absurd (levels k.lexemes h.lexemes q k.has h.has k.is h.level)
+  same f g (of_grammar p e h) (of_grammar q i k) =
+      e ∙ ap Syntax (one_place k.lexemes (past start text) p q (subst (λ ts. IsWrongAt ts (past start text) p) (one_lexemes text h.lexemes k.lexemes h.has k.has) h.wrong) k.wrong) ∙ sym i
+  same f g (of_grammar p e h) (of_rules k) = absurd (wrong p k.statements h k.has)
+  same f g (of_rules h) (of_tokens b i k) = absurd (none_with_fault text h.has.lexemes b h.has.has k)
+  same f g (of_rules h) (of_levels q i k) = absurd (levels k.lexemes h.has.lexemes q k.has h.has.has k.is h.has.level)
+  same f g (of_rules h) (of_grammar q i k) = absurd (wrong q h.statements k h.has)
+  same f g (of_rules h) (of_rules k) = err_one f g (one_meaning text (Err f) (Err g) h k)
+
+  model_or : (m : Model) (f : ModelFault) → IsModelText text m → View text f → ⊥
+  model_or m f g (of_tokens a e h) = none_with_fault text g.has.lexemes a g.has.has h
+  model_or m f g (of_levels p e h) = levels h.lexemes g.has.lexemes p h.has g.has.has h.is g.has.level
+  model_or m f g (of_grammar p e h) = wrong p g.statements h g.has
+  model_or m f g (of_rules h) = ok_err m f (one_meaning text (Ok m) (Err f) g h)
 
 pub one_model : OneModel
-one_model = record { one = λ text m n g h. ok_one m n (one_meaning text (Ok m) (Ok n) g h); not_both = λ text m f g h. not_both text m g f h }
+one_model = record {
+  one = λ text m n g h. ok_one m n (one_meaning text (Ok m) (Ok n) g h);
+  one_fault = λ text f g h k. same text f g (view text f h) (view text g k);
+  not_both = λ text m f g h. model_or text m f g (view text f h);
+}

@@ -25,7 +25,7 @@ use Rattle.gms_read.specs.Lexemes.{AreLexemes}
 use Rattle.gms_read.specs.Nesting.{too_deep}
 use Rattle.gms_read.specs.Grammar.{Written, numeral, name, call, listed, grouped, raised, signed, joined, Statement, empty, variables, equations, definition, setting, model, solve}
 use Rattle.gms_read.specs.Rules.{Step, most, is_none, has_sign, first_low, first_high, variable_at, with_variable, add_variable, add_equation, add_model, is_infinite, with_low, with_high, is_model, crosses, and_then, or_else, unless_fault, fault_where, expression_fault, declare_by, declare_variable, declare_equation, declare_all, discrete_fault, definition_fault, set_variable, set_equation, set_by, aim_at, aim, after, after_all, nothing_yet, undefined_from, crossing_from, finish_by, finish, whole_meaning_by, whole_meaning, declared_as, variable_of, equation_of}
-use Rattle.gms_read.specs.Texts.{HasLexemes, Gives, IsModelText, RefusesModel}
+use Rattle.gms_read.specs.Texts.{HasLexemes, Gives, IsModelText, HasFault, RefusesModel}
 use Rattle.gms_read.specs.Steps.{AreItems, DraftsAll, FinishesAs}
 
 -- ---- the faults that rules have
@@ -33,6 +33,7 @@ use Rattle.gms_read.specs.Steps.{AreItems, DraftsAll, FinishesAs}
 abbrev pub IsRule : ModelFault → Type 0
 IsRule (Lex f) = ⊥
 IsRule (Syntax p) = ⊥
+IsRule NoMemory = ⊥
 IsRule f = Unit {0}
 
 abbrev pub MayFault : Option ModelFault → Type 0
@@ -164,21 +165,24 @@ step_fault : (s : Step) (f : ModelFault) → MayStep s → s ≡ Err f → IsRul
 step_fault s f h e = subst MayStep e h
 
 -- ---- what a refusal says
+rule_fault : (text : List ℕ) (f : ModelFault) → IsRule f → Gives text (Err f) → HasFault text f
+rule_fault text (Lex f) h g = absurd h
+rule_fault text (Syntax p) h g = absurd h
+rule_fault text (Undeclared p) h g = g
+rule_fault text (Twice p) h g = g
+rule_fault text (Discrete p) h g = g
+rule_fault text (Attribute p) h g = g
+rule_fault text (Function p) h g = g
+rule_fault text (TooLarge p) h g = inr g
+rule_fault text (Undefined e n) h g = g
+rule_fault text (BoundsCross v n) h g = g
+rule_fault text NoMemory h g = absurd h
+
 rule_refused : (text : List ℕ) (f : ModelFault) → IsRule f → Gives text (Err f) → RefusesModel text f
-rule_refused text (Lex f) h g = absurd h
-rule_refused text (Syntax p) h g = absurd h
-rule_refused text (Undeclared p) h g = g
-rule_refused text (Twice p) h g = g
-rule_refused text (Discrete p) h g = g
-rule_refused text (Attribute p) h g = g
-rule_refused text (Function p) h g = g
-rule_refused text (TooLarge p) h g = inr g
-rule_refused text (Undefined e n) h g = g
-rule_refused text (BoundsCross v n) h g = g
-rule_refused text NoMemory h g = tt
+rule_refused text f h g = inr (rule_fault text f h g)
 
 no_memory : (text : List ℕ) (f : ModelFault) → f ≡ NoMemory → RefusesModel text f
-no_memory text f e = subst (RefusesModel text) (sym e) tt
+no_memory text f e = inl e
 
 -- a text whose lexemes are nowhere too deep and stand for the statements of the items
 pub record HasItems (text : List ℕ) (items : List Item) : Type 0 where

@@ -2,10 +2,10 @@
 use Rattle.std.specs.Prelude.{◌≡◌, ℕ, List}
 use Rattle.emp_ast.specs.declared.model.Model.{Model}
 use Rattle.gms_read.specs.declared.fault.ModelFault.{ModelFault}
-use Rattle.gms_read.specs.declared.fault.ModelFault.TheVariants.{NoMemory}
-use Rattle.gms_read.specs.Texts.{IsModelText, RefusesModel}
+use Rattle.gms_read.specs.Texts.{IsModelText, HasFault}
 
--- a text stands for one model or has a fault, and not both
+-- a text stands for one model or has one fault, and not both
 pub record OneModel : Type 0 where
   pub one : (text : List ℕ) (m n : Model) → IsModelText text m → IsModelText text n → m ≡ n
-  pub not_both : (text : List ℕ) (m : Model) (f : ModelFault) → IsModelText text m → RefusesModel text f → f ≡ NoMemory
+  pub one_fault : (text : List ℕ) (f g : ModelFault) → HasFault text f → HasFault text g → f ≡ g
+  pub not_both : (text : List ℕ) (m : Model) (f : ModelFault) → IsModelText text m → HasFault text f → ⊥

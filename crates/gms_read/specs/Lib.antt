@@ -10,5 +10,6 @@ pub mod Rules
 pub mod Shapes
 pub mod Sides
 pub mod Steps
+pub mod Syntax
 pub mod Texts
 pub mod Laws

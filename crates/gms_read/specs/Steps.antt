@@ -10,6 +10,7 @@ use Rattle.gms_read.specs.declared.fault.ModelFault.{ModelFault}
 use Rattle.gms_read.specs.declared.fault.ModelFault.TheVariants.{Lex, Syntax, NoMemory}
 use Rattle.emp_ast.specs.declared.tree.Place.{Place}
 use Rattle.gms_read.specs.Grammar.{Statement, IsFile}
+use Rattle.gms_read.specs.Syntax.{IsWrongAt}
 use Rattle.gms_read.specs.Items.{items_of}
 use Rattle.gms_read.specs.Rules.{after_all, nothing_yet}
 
@@ -19,12 +20,9 @@ pub record AreItems (ts : List Lexeme) (items : List Item) : Type 0 where
   pub file : IsFile ts statements
   pub are : items ≡ items_of statements
 
-abbrev pub StandsForNone : List Lexeme → Type 0
-StandsForNone ts = (ss : List Statement) → IsFile ts ss → ⊥
-
--- the lexemes stand for no statements, or memory is wanted
-abbrev pub RefusesLexemes : List Lexeme → ModelFault → Type 0
-RefusesLexemes ts f = (f ≡ NoMemory) ⊎ ((p : Place) × (f ≡ Syntax p) × StandsForNone ts)
+-- the lexemes stop beginning a grammatical text at the place, or memory is wanted
+abbrev pub RefusesLexemes : List Lexeme → Place → ModelFault → Type 0
+RefusesLexemes ts end f = (f ≡ NoMemory) ⊎ ((p : Place) × (f ≡ Syntax p) × IsWrongAt ts end p)
 
 -- whatever statements of a file the items are of, the draft is what they give, or the fault is the first that they have
 abbrev pub DraftsAll : List ℕ → List Item → Result Draft ModelFault → Type 0

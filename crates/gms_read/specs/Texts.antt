@@ -3,13 +3,14 @@ use Rattle.std.specs.Prelude.{◌≡◌, ◌⊎◌, ℕ, List, Some, None, Resul
 use Rattle.emp_ast.specs.declared.tree.Place.{Place}
 use Rattle.emp_ast.specs.declared.model.Model.{Model}
 use Rattle.emp_lex.specs.declared.token.Token.{Token}
-use Rattle.emp_lex.specs.Tokens.{IsTokenList, IsFirstFault}
+use Rattle.emp_lex.specs.Tokens.{IsTokenList, IsFirstFault, past, start}
 use Rattle.gms_read.specs.declared.lexeme.Lexeme.{Lexeme}
 use Rattle.gms_read.specs.declared.fault.ModelFault.{ModelFault}
 use Rattle.gms_read.specs.declared.fault.ModelFault.TheVariants.{Lex, Syntax, Undeclared, Twice, Discrete, Attribute, Function, TooLarge, Undefined, BoundsCross, NoMemory}
 use Rattle.gms_read.specs.Lexemes.{AreLexemes}
 use Rattle.gms_read.specs.Nesting.{too_deep}
 use Rattle.gms_read.specs.Grammar.{Statement, IsFile}
+use Rattle.gms_read.specs.Syntax.{IsWrongAt}
 use Rattle.gms_read.specs.Rules.{whole_meaning}
 
 -- the text is cut into the lexemes
@@ -40,23 +41,27 @@ pub record IsTooDeep (text : List ℕ) (p : Place) : Type 0 where
   pub has : HasLexemes text lexemes
   pub is : too_deep lexemes ≡ Some p
 
--- the lexemes of the text are nowhere too deep and stand for no statements
-pub record IsUngrammatical (text : List ℕ) : Type 0 where
+-- the lexemes of the text are nowhere too deep, and stop beginning a grammatical text at the place
+pub record IsUngrammatical (text : List ℕ) (p : Place) : Type 0 where
   pub lexemes : List Lexeme
   pub has : HasLexemes text lexemes
   pub level : too_deep lexemes ≡ None
-  pub none : (ss : List Statement) → IsFile lexemes ss → ⊥
+  pub wrong : IsWrongAt lexemes (past start text) p
+
+-- the first fault of a text
+abbrev pub HasFault : List ℕ → ModelFault → Type 0
+HasFault text (Lex f) = IsFirstFault text f
+HasFault text (Syntax p) = IsUngrammatical text p
+HasFault text (Undeclared p) = Gives text (Err (Undeclared p))
+HasFault text (Twice p) = Gives text (Err (Twice p))
+HasFault text (Discrete p) = Gives text (Err (Discrete p))
+HasFault text (Attribute p) = Gives text (Err (Attribute p))
+HasFault text (Function p) = Gives text (Err (Function p))
+HasFault text (TooLarge p) = IsTooDeep text p ⊎ Gives text (Err (TooLarge p))
+HasFault text (Undefined e n) = Gives text (Err (Undefined e n))
+HasFault text (BoundsCross v n) = Gives text (Err (BoundsCross v n))
+HasFault text NoMemory = ⊥
 
 -- a refusal for want of memory says nothing of the text
 abbrev pub RefusesModel : List ℕ → ModelFault → Type 0
-RefusesModel text (Lex f) = IsFirstFault text f
-RefusesModel text (Syntax p) = IsUngrammatical text
-RefusesModel text (Undeclared p) = Gives text (Err (Undeclared p))
-RefusesModel text (Twice p) = Gives text (Err (Twice p))
-RefusesModel text (Discrete p) = Gives text (Err (Discrete p))
-RefusesModel text (Attribute p) = Gives text (Err (Attribute p))
-RefusesModel text (Function p) = Gives text (Err (Function p))
-RefusesModel text (TooLarge p) = IsTooDeep text p ⊎ Gives text (Err (TooLarge p))
-RefusesModel text (Undefined e n) = Gives text (Err (Undefined e n))
-RefusesModel text (BoundsCross v n) = Gives text (Err (BoundsCross v n))
-RefusesModel text NoMemory = Unit {0}
+RefusesModel text f = (f ≡ NoMemory) ⊎ HasFault text f

@@ -13,7 +13,7 @@ use std::alloc::{AllocError, AllocFailed};
 pub enum ModelFault {
     /// The text has no tokens.
     Lex(LexFault),
-    /// The tokens stand for no statements.
+    /// The tokens are no grammatical text: the first with which those up to it begin none, or the place behind the text.
     Syntax(Place),
     /// A name that is not declared before.
     Undeclared(Place),

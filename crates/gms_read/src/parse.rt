@@ -11,9 +11,6 @@ use crate::symbol::{Move, Next, Symbol};
 use emp_ast::tree::Place;
 use std::alloc::{AllocError, Global};
 
-#[cfg(test)]
-mod tests;
-
 fn write(out: &mut Vec<Item>, item: Option<Item>) -> Result<(), AllocError>
     ensures { OnOk result (out.new.items ≡ add out.old.items item) }
 {
@@ -78,10 +75,11 @@ fn is_over(stack: &[Symbol]) -> bool
 
 /// The items of the statements for which the lexemes stand.
 ///
-/// Where they stand for none the fault is `Syntax`, at the first lexeme with which they begin no statements; `end` is the
-/// place behind the text.
+/// Where they stand for none the fault is `Syntax`, at the first lexeme with which those up to it begin no grammatical text,
+/// or at `end`, the place behind the text, where all of them begin one.
+#[tactic(auto, using(crate::proofs::Places::parsing))]
 pub fn parse(alloc: Global, lexemes: &[Lexeme], end: Place) -> Result<Vec<Item>, ModelFault>
-    ensures { MatchResult result (λ v. AreItems lexemes.now v.items) (RefusesLexemes lexemes.now) }
+    ensures { MatchResult result (λ v. AreItems lexemes.now v.items) (RefusesLexemes lexemes.now end) }
 {
     let mut stack = Vec::new(alloc);
     let mut out = Vec::new(alloc);

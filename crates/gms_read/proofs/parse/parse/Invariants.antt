@@ -1,7 +1,6 @@
-use Rattle.std.proofs.Common.{◌≡◌, reverse, drop}
-use Rattle.gms_read.specs.Machine.{run}
-use Rattle.gms_read.proofs.Agree.{reading}
+use Rattle.std.proofs.Common.{reverse, take}
+use Rattle.gms_read.proofs.Places.{Reached}
 use Rattle.gms_read.proofs.parse.parse.Given as goal
 
 abbrev pub invariant-loop-t : goal.invariant-loop-t
-invariant-loop-t l = run (reverse l.stack.items) l.out.items (drop l.t-index l.lexemes) ≡ reading l.lexemes
+invariant-loop-t l = Reached (take l.t-index l.lexemes) (reverse l.stack.items) l.out.items
