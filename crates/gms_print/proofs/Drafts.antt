@@ -12,8 +12,6 @@ use Rattle.emp_ast.specs.declared.tree.Place.{Place}
 use Rattle.emp_ast.specs.declared.tree.Tree.{Tree}
 use Rattle.emp_ast.specs.declared.tree.VarId.{VarId}
 use Rattle.emp_ast.specs.declared.model.Relation.{Relation}
-use Rattle.emp_ast.specs.declared.model.Relation.TheVariants.{Nothing}
-use Rattle.emp_ast.specs.declared.model.Equation.{Equation}
 use Rattle.emp_ast.specs.declared.model.Sense.{Sense}
 use Rattle.emp_ast.specs.Expression.{Expression, number, variable as variable_of_number, negated, joined as joined_with, power}
 use Rattle.gms_read.specs.declared.lexeme.Word.TheVariants.{Low, High, Fixed, Level as LevelWord, Marginal}
@@ -23,6 +21,8 @@ use Rattle.gms_read.specs.declared.lexeme.Sign.TheVariants.{Plus, Minus}
 use Rattle.gms_read.specs.declared.lexeme.Sort.{Sort}
 use Rattle.gms_read.specs.declared.lexeme.Sort.TheVariants.{Name}
 use Rattle.gms_read.specs.declared.lexeme.Lexeme.{Lexeme}
+use Rattle.gms_read.specs.declared.draft.Definition.{Definition}
+use Rattle.gms_read.specs.declared.draft.DraftEquation.{DraftEquation}
 use Rattle.gms_read.specs.declared.draft.Draft.{Draft}
 use Rattle.gms_read.specs.declared.draft.DraftVariable.{DraftVariable}
 use Rattle.gms_read.specs.declared.draft.Limit.{Limit}
@@ -31,8 +31,8 @@ use Rattle.gms_read.specs.declared.table.Named.TheVariants.{Variable as Variable
 use Rattle.gms_read.specs.declared.fault.ModelFault.{ModelFault}
 use Rattle.gms_read.specs.Lexemes.{spelling}
 use Rattle.gms_read.specs.Grammar.{Written, numeral, name, call, listed, grouped, raised, signed, joined, Statement, empty, variables, equations, definition, setting, model, solve}
-use Rattle.gms_read.specs.Rules.{Step, and_then, or_else, unless_fault, fault_where, entry_of, declared_as, variable_in, is_model, is_model_entry, is_none, small_whole, exponent, expression_fault, or_zero, second_exponent, meaning, tree_of, first_low, first_high, has_sign, no_variable, variable_at, with_variable, add_variable, add_equation, add_model, restrict, declare_by, declare_variable, declare_equation, declare_all, discrete_fault, declare_model, no_equation, equation_at, no_tree, with_definition, definition_fault, equation_of, define, is_infinite, with_low, with_high, set_variable, set_equation, set_by, with_goal, aim_at, aim, after, nothing_yet}
-use Rattle.gms_print.proofs.Sound.{IsFree, IsValue, SoundExpression, SoundTree, SoundEquation, SoundGoal}
+use Rattle.gms_read.specs.Rules.{Step, and_then, or_else, unless_fault, fault_where, entry_of, declared_as, variable_in, is_model, is_model_entry, is_none, small_whole, exponent, expression_fault, or_zero, second_exponent, meaning, tree_of, first_low, first_high, has_sign, no_variable, variable_at, with_variable, add_variable, add_equation, add_model, restrict, declare_by, declare_variable, declare_equation, declare_all, discrete_fault, declare_model, no_equation, equation_at, with_definition, definition_fault, equation_of, define, is_infinite, with_low, with_high, set_variable, set_equation, set_by, with_goal, aim_at, aim, after, nothing_yet}
+use Rattle.gms_print.proofs.Sound.{IsFree, IsValue, SoundExpression, SoundTree, SoundGoal}
 use Rattle.gms_print.proofs.GoodTexts.{HasValues, GoodSide, SoundLimit, FreeName, GoodStatement}
 
 -- ---- lists
@@ -143,7 +143,7 @@ model_names (Some n) = n ∷ []
 abbrev pub names_of : List DraftVariable → List (List ℕ)
 names_of vs = map (λ v. v.name) vs
 
-abbrev pub equation_names_of : List Equation → List (List ℕ)
+abbrev pub equation_names_of : List DraftEquation → List (List ℕ)
 equation_names_of es = map (λ e. e.name) es
 
 abbrev pub draft_names : Draft → List (List ℕ)
@@ -153,11 +153,13 @@ abbrev pub SoundLimits : DraftVariable → Type 0
 SoundLimits v = SoundLimit v.low × SoundLimit v.high
 
 -- each defined equation has sound sides
-abbrev pub SoundEquations : ℕ → List Equation → List Bool → Type 0
-SoundEquations count [] [] = Unit {0}
-SoundEquations count (e ∷ es) (b ∷ bs) = (b ≡ true → SoundEquation count e) × SoundEquations count es bs
-SoundEquations count [] (b ∷ bs) = ⊥
-SoundEquations count (e ∷ es) [] = ⊥
+abbrev pub SoundSides : ℕ → Option Definition → Type 0
+SoundSides count None = Unit {0}
+SoundSides count (Some d) = SoundTree count d.left × SoundTree count d.right
+
+abbrev pub SoundEquations : ℕ → List DraftEquation → Type 0
+SoundEquations count [] = Unit {0}
+SoundEquations count (e ∷ es) = SoundSides count e.definition × SoundEquations count es
 
 pub record IsSound (d : Draft) : Type 0 where
   pub names : SoundNames d.names (draft_names d)
@@ -166,7 +168,7 @@ pub record IsSound (d : Draft) : Type 0 where
   pub few_variables : length d.variables ≤ 512
   pub few_equations : length d.equations ≤ 512
   pub limits : Each SoundLimits d.variables
-  pub equations : SoundEquations (length d.variables) d.equations d.defined
+  pub equations : SoundEquations (length d.variables) d.equations
   pub goal : SoundGoal (length d.variables) d.goal
 
 abbrev pub SoundStep : Step → Type 0
@@ -196,11 +198,13 @@ more_expression m n (power e k) l h = (more_expression m n e l h.0, h.1)
 more_tree : (m n : ℕ) (t : Tree) → m ≤ n → SoundTree m t → SoundTree n t
 more_tree m n t l h = record { expression = h.expression; is = h.is; sound = more_expression m n h.expression l h.sound; shallow = h.shallow }
 
-more_equations : (m n : ℕ) (es : List Equation) (bs : List Bool) → m ≤ n → SoundEquations m es bs → SoundEquations n es bs
-more_equations m n [] [] l h = tt
-more_equations m n [] (b ∷ bs) l h = absurd h
-more_equations m n (e ∷ es) [] l h = absurd h
-more_equations m n (e ∷ es) (b ∷ bs) l h = (λ k. let s = h.0 k in record { left = more_tree m n e.left l s.left; right = more_tree m n e.right l s.right }, more_equations m n es bs l h.1)
+more_sides : (m n : ℕ) (o : Option Definition) → m ≤ n → SoundSides m o → SoundSides n o
+more_sides m n None l h = tt
+more_sides m n (Some d) l h = (more_tree m n d.left l h.0, more_tree m n d.right l h.1)
+
+more_equations : (m n : ℕ) (es : List DraftEquation) → m ≤ n → SoundEquations m es → SoundEquations n es
+more_equations m n [] l h = tt
+more_equations m n (e ∷ es) l h = (more_sides m n e.definition l h.0, more_equations m n es l h.1)
 
 more_goal : (m n : ℕ) (goal : Option (Sense × VarId)) → m ≤ n → SoundGoal m goal → SoundGoal n goal
 more_goal m n None l h = tt
@@ -242,7 +246,7 @@ add_variable_sound text k d t s f h l =
       few_variables = omega arith;
       few_equations = s.few_equations;
       limits = each_push SoundLimits d.variables v s.limits (sound_first_low k, sound_first_high k);
-      equations = more_equations (length d.variables) (length (d.variables ++ v ∷ [])) d.equations d.defined grown s.equations;
+      equations = more_equations (length d.variables) (length (d.variables ++ v ∷ [])) d.equations grown s.equations;
       goal = more_goal (length d.variables) (length (d.variables ++ v ∷ [])) d.goal grown s.goal;
     }
   where
@@ -254,23 +258,21 @@ add_variable_sound text k d t s f h l =
     whole_model key (inl q) = s.model key q
     whole_model key (inr q) = absurd (cc)
 
-push_equation : (count : ℕ) (es : List Equation) (bs : List Bool) (e : Equation) → SoundEquations count es bs → SoundEquations count (es ++ e ∷ []) (bs ++ false ∷ [])
-push_equation count [] [] e h = (λ k. absurd (false≢true k), tt)
-push_equation count [] (b ∷ bs) e h = absurd h
-push_equation count (f ∷ es) [] e h = absurd h
-push_equation count (f ∷ es) (b ∷ bs) e h = (h.0, push_equation count es bs e h.1)
+push_equation : (count : ℕ) (es : List DraftEquation) (n : List ℕ) → SoundEquations count es → SoundEquations count (es ++ (record { name = n; definition = None }) ∷ [])
+push_equation count [] n h = (tt, tt)
+push_equation count (f ∷ es) n h = (h.0, push_equation count es n h.1)
 
 add_equation_sound : (text : List ℕ) (d : Draft) (t : Lexeme) → IsSound d → FreeName text t → declared_as text d t ≡ None → length d.equations < 512 → IsSound (add_equation text d t)
 add_equation_sound text d t s f h l =
     let n = spelling text t in
-    let e : Equation = record { name = n; left = no_tree; right = no_tree; relation = Nothing } in
+    let e : DraftEquation = record { name = n; definition = None } in
     let vn = names_of d.variables in
     let en = equation_names_of d.equations in
     let mn = model_names d.model in
     let size : length (d.equations ++ e ∷ []) ≡ length d.equations + 1 = length_push d.equations e in
     let more : SoundNames (d.names ++ (lower n, EquationName (length d.equations)) ∷ []) (vn ++ en ++ n ∷ mn) = names_more d.names (vn ++ en) mn n (EquationName (length d.equations)) s.names h f in
     let q : vn ++ en ++ n ∷ mn ≡ vn ++ equation_names_of (d.equations ++ e ∷ []) ++ mn =
-    sym (append_assoc (vn ++ en) (n ∷ []) mn) ∙ ap (λ z. z ++ mn) (append_assoc vn en (n ∷ [])) ∙ sym (ap (λ z. vn ++ z ++ mn) (map_push (λ (e : Equation). e.name) d.equations e)) in
+    sym (append_assoc (vn ++ en) (n ∷ []) mn) ∙ ap (λ z. z ++ mn) (append_assoc vn en (n ∷ [])) ∙ sym (ap (λ z. vn ++ z ++ mn) (map_push (λ (e : DraftEquation). e.name) d.equations e)) in
     record {
       names = subst (SoundNames (d.names ++ (lower n, EquationName (length d.equations)) ∷ [])) q more;
       variable = λ key j r. found key j (found_push d.names (lower n, EquationName (length d.equations)) key (VariableName j) r);
@@ -278,7 +280,7 @@ add_equation_sound text d t s f h l =
       few_variables = s.few_variables;
       few_equations = omega arith;
       limits = s.limits;
-      equations = push_equation (length d.variables) d.equations d.defined e s.equations;
+      equations = push_equation (length d.variables) d.equations n s.equations;
       goal = s.goal;
     }
   where
@@ -325,17 +327,15 @@ with_variable_sound d k v s e h =
       few_variables = subst (λ n. n ≤ 512) size s.few_variables;
       few_equations = s.few_equations;
       limits = each_set SoundLimits d.variables k v s.limits h;
-      equations = subst (λ n. SoundEquations n d.equations d.defined) size s.equations;
+      equations = subst (λ n. SoundEquations n d.equations) size s.equations;
       goal = subst (λ n. SoundGoal n d.goal) size s.goal;
     }
 
 -- ---- definitions
-set_equations : (count : ℕ) (es : List Equation) (bs : List Bool) (k : ℕ) (e : Equation) → SoundEquations count es bs → SoundEquation count e → SoundEquations count (set es k e) (set bs k true)
-set_equations count [] [] k e h s = tt
-set_equations count [] (b ∷ bs) k e h s = absurd h
-set_equations count (f ∷ es) [] k e h s = absurd h
-set_equations count (f ∷ es) (b ∷ bs) zero e h s = (λ _. s, h.1)
-set_equations count (f ∷ es) (b ∷ bs) (suc k) e h s = (h.0, set_equations count es bs k e h.1 s)
+set_equations : (count : ℕ) (es : List DraftEquation) (k : ℕ) (e : DraftEquation) → SoundEquations count es → SoundSides count e.definition → SoundEquations count (set es k e)
+set_equations count [] k e h s = tt
+set_equations count (f ∷ es) zero e h s = (s, h.1)
+set_equations count (f ∷ es) (suc k) e h s = (h.0, set_equations count es k e h.1 s)
 
 small_exponent : (f : Frac) → or_zero (exponent f) ≤ 9
 small_exponent f = go f.num f.den
@@ -378,15 +378,15 @@ module _ (text : List ℕ) (d : Draft) (s : IsSound d) where
 
   with_definition_sound : (k : ℕ) (left : Written) (r : Relation) (right : Written) → SoundTree (length d.variables) (tree_of text d left) → SoundTree (length d.variables) (tree_of text d right) → IsSound (with_definition text d k left r right)
   with_definition_sound k left r right a b =
-      let e : Equation = record { name = (equation_at d k).name; left = tree_of text d left; right = tree_of text d right; relation = r } in
+      let e : DraftEquation = record { name = (equation_at d k).name; definition = Some (record { left = tree_of text d left; relation = r; right = tree_of text d right }) } in
       record {
-        names = subst (λ ns. SoundNames d.names (names_of d.variables ++ ns ++ model_names d.model)) (sym (same_map (λ (e : Equation). e.name) d.equations k e no_equation refl)) s.names;
+        names = subst (λ ns. SoundNames d.names (names_of d.variables ++ ns ++ model_names d.model)) (sym (same_map (λ (e : DraftEquation). e.name) d.equations k e no_equation refl)) s.names;
         variable = s.variable;
         model = s.model;
         few_variables = s.few_variables;
         few_equations = subst (λ n. n ≤ 512) (sym (length-set d.equations k e)) s.few_equations;
         limits = s.limits;
-        equations = set_equations (length d.variables) d.equations d.defined k e s.equations (record { left = a; right = b });
+        equations = set_equations (length d.variables) d.equations k e s.equations (a, b);
         goal = s.goal;
       }
 

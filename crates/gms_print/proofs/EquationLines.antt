@@ -8,7 +8,9 @@ use Rattle.emp_ast.specs.declared.tree.Tree.{Tree}
 use Rattle.emp_ast.specs.declared.model.Relation.{Relation}
 use Rattle.emp_ast.specs.declared.model.Relation.TheVariants.{Equal, AtLeast, AtMost, Nothing}
 use Rattle.emp_ast.specs.declared.model.Equation.{Equation}
-use Rattle.emp_ast.specs.Expression.{Expression, nodes_from, IsTreeOf}
+use Rattle.emp_ast.specs.Expression.{Expression, expression_of}
+use Rattle.emp_ast.specs.Nodes.{nodes_from, IsTreeOf}
+use Rattle.emp_ast.proofs.Nodes.{stands_of}
 use Rattle.gms_read.specs.declared.lexeme.Sort.TheVariants.{Name, Relation as Related, Dots, Semicolon}
 use Rattle.gms_read.specs.declared.lexeme.Lexeme.{Lexeme}
 use Rattle.gms_read.specs.Lexemes.{relation_of}
@@ -18,7 +20,6 @@ use Rattle.gms_print.specs.Canonical.{Prints, relation_text, EquationLines, no_e
 use Rattle.gms_print.proofs.Pieces.{Piece, rendered, IsOf, AreOf, SymbolEnds, Good, good_piece}
 use Rattle.gms_print.proofs.Sound.{IsFree, SoundExpression, depth, SoundTree, SoundEquation}
 use Rattle.gms_print.proofs.Effects.{Means, AreDefinitions, equation_names_of}
-use Rattle.gms_print.proofs.OneTree.{one_expression}
 use Rattle.gms_print.proofs.ExpressionReads.{NumeralsRead, StandsFor, ReadsExpression}
 use Rattle.gms_print.proofs.ExpressionPieces.{name_piece, symbol_piece, good_symbol, rendered_append}
 use Rattle.gms_print.proofs.Expressions.{reads_expression}
@@ -77,6 +78,10 @@ pub record Side (names : List (List ℕ)) (t : Tree) (bytes : List ℕ) : Type 0
   pub is : IsTreeOf t expression
   pub shallow : depth expression ≤ 64
   pub reads : ReadsExpression names expression bytes
+
+-- a tree is that of one expression alone
+one_expression : (t : Tree) (e f : Expression) → IsTreeOf t e → IsTreeOf t f → e ≡ f
+one_expression t e f p q = sym (stands_of e) ∙ ap expression_of (sym p ∙ q) ∙ stands_of f
 
 side : (names : List (List ℕ)) (t : Tree) (e : Expression) (bytes : List ℕ) → NumeralsRead → All IsFree names → SoundTree (length names) t → IsTreeOf t e → Prints names e bytes → Side names t bytes
 side names t e bytes n free s is p =

@@ -18,7 +18,6 @@ pub mod ModelLines
 pub mod NamesLines
 pub mod Nodes
 pub mod Numerals
-pub mod OneTree
 pub mod Pieces
 pub mod Printable
 pub mod Sound

@@ -7,7 +7,8 @@ use Rattle.emp_ast.specs.declared.tree.Operator.TheVariants.{Plus, Minus, Times,
 use Rattle.emp_ast.specs.declared.tree.Node.{Node}
 use Rattle.emp_ast.specs.declared.tree.Node.TheVariants.{Number, Var, Neg, Power}
 use Rattle.emp_ast.specs.declared.tree.Tree.{Tree}
-use Rattle.emp_ast.specs.Expression.{Expression, number, variable, negated, joined, power, size, root, join_node, nodes_from}
+use Rattle.emp_ast.specs.Expression.{Expression, number, variable, negated, joined, power}
+use Rattle.emp_ast.specs.Nodes.{size, root, join_node, nodes_from}
 use Rattle.gms_print.specs.declared.shape.Shape.{Shape}
 use Rattle.gms_print.specs.declared.shape.Shape.TheVariants.{Base, Raised, Product, Sum}
 use Rattle.gms_print.specs.declared.mark.Mark.{Mark}

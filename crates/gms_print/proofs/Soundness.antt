@@ -7,18 +7,22 @@ use Rattle.emp_ast.specs.declared.model.Equation.{Equation}
 use Rattle.emp_ast.specs.declared.model.Variable.{Variable}
 use Rattle.emp_ast.specs.declared.model.Model.{Model}
 use Rattle.gms_read.specs.declared.lexeme.Lexeme.{Lexeme}
+use Rattle.gms_read.specs.declared.draft.Definition.{Definition}
+use Rattle.gms_read.specs.declared.draft.DraftEquation.{DraftEquation}
 use Rattle.gms_read.specs.declared.draft.Draft.{Draft}
 use Rattle.gms_read.specs.declared.draft.DraftVariable.{DraftVariable}
 use Rattle.gms_read.specs.declared.draft.Limit.{Limit}
 use Rattle.gms_read.specs.declared.draft.Limit.TheVariants.{Below, At, Above}
 use Rattle.gms_read.specs.declared.fault.ModelFault.{ModelFault}
+use Rattle.gms_read.specs.declared.fault.ModelFault.TheVariants.{Undefined}
 use Rattle.gms_read.specs.Nesting.{too_deep_from}
 use Rattle.gms_read.specs.Grammar.{Statement, solve, IsSolve, is_solve, IsFile, last, then}
-use Rattle.gms_read.specs.Rules.{Step, and_then, or_else, is_none, after, after_all, nothing_yet, undefined_from, crosses, crossing_from, end_of, finished_variables, or_empty, finished, finish_by, finish, whole_meaning_by}
+use Rattle.gms_read.specs.Rules.{Step, and_then, or_else, is_none, after, after_all, nothing_yet, undefined_from, crosses, crossing_from, end_of, finished_variables, finished_equation, finished_equations, or_empty, finished, finish_by, finish, whole_meaning_by}
+use Rattle.emp_ast.specs.Names.{variable_names}
 use Rattle.gms_print.specs.ReadsBack.{HasText}
 use Rattle.gms_print.proofs.Sound.{IsFree, SoundEquation, SoundEnd as SoundModelEnd, low_limit, high_limit, SoundVariable, SoundGoal, all_names, Sound}
 use Rattle.gms_print.proofs.GoodTexts.{each_parts, IsGood, good_lexemes, SoundLimit, statement_rises, good_statement}
-use Rattle.gms_print.proofs.Drafts.{names_of, equation_names_of, model_names, draft_names, Apart, apart_pairs, SoundLimits, SoundEquations, IsSound, SoundStep, SoundEnd, sound_start, after_sound, solve_sound}
+use Rattle.gms_print.proofs.Drafts.{names_of, equation_names_of, model_names, draft_names, Apart, apart_pairs, SoundLimits, SoundSides, SoundEquations, IsSound, SoundStep, SoundEnd, sound_start, after_sound, solve_sound}
 
 -- ---- statements of a file
 then_end : (r : Step) (following : Draft → Step) → SoundStep r → ((d : Draft) → IsSound d → SoundEnd (following d)) → SoundEnd (and_then r following)
@@ -45,11 +49,29 @@ file_sound text ts ss (then us vs s more i f) g l d h =
 some_none : {P : Type 0} (f : ModelFault) → ◌≡◌ {A = Option ModelFault} (Some f) None → P
 some_none f e = absurd (cc)
 
-all_defined : (count k : ℕ) (es : List Equation) (bs : List Bool) → SoundEquations count es bs → undefined_from k es bs ≡ None → Each (SoundEquation count) es
-all_defined count k [] bs h n = tt
-all_defined count k (e ∷ es) [] h n = absurd h
-all_defined count k (e ∷ es) (true ∷ bs) h n = (h.0 refl, all_defined count (k + 1) es bs h.1 n)
-all_defined count k (e ∷ es) (false ∷ bs) h n = some_none _ n
+all_defined : (count k : ℕ) (es : List DraftEquation) → SoundEquations count es → undefined_from k es ≡ None → Each (SoundEquation count) (finished_equations es)
+all_defined count k [] h n = tt
+all_defined count k (e ∷ es) h n = go e.name e.definition h.0 (all_defined count (k + 1) es h.1) n
+  where
+    go : (name : List ℕ) (o : Option Definition) → SoundSides count o → (undefined_from (k + 1) es ≡ None → Each (SoundEquation count) (finished_equations es)) → cond (is_none o) (Some (Undefined (record { at = k }) e.name)) (undefined_from (k + 1) es) ≡ None → Each (SoundEquation count) (finished_equation name o ++ finished_equations es)
+    go name None s more n = some_none _ n
+    go name (Some d) s more n = (record { left = s.0; right = s.1 }, more n)
+
+defined_names : (k : ℕ) (es : List DraftEquation) → undefined_from k es ≡ None → map (λ (e : Equation). e.name) (finished_equations es) ≡ equation_names_of es
+defined_names k [] n = refl
+defined_names k (e ∷ es) n = go e.name e.definition (defined_names (k + 1) es) n
+  where
+    go : (name : List ℕ) (o : Option Definition) → (undefined_from (k + 1) es ≡ None → map (λ (e : Equation). e.name) (finished_equations es) ≡ equation_names_of es) → cond (is_none o) (Some (Undefined (record { at = k }) e.name)) (undefined_from (k + 1) es) ≡ None → map (λ (e : Equation). e.name) (finished_equation name o ++ finished_equations es) ≡ name ∷ equation_names_of es
+    go name None more n = some_none _ n
+    go name (Some d) more n = ap (λ ns. name ∷ ns) (more n)
+
+defined_few : (es : List DraftEquation) → length (finished_equations es) ≤ length es
+defined_few [] = omega arith
+defined_few (e ∷ es) = let h = go e.name e.definition (defined_few es) in omega (arith, h)
+  where
+    go : (name : List ℕ) (o : Option Definition) → length (finished_equations es) ≤ length es → length (finished_equation name o ++ finished_equations es) ≤ length es + 1
+    go name None h = omega arith
+    go name (Some d) h = omega arith
 
 sound_end : (l : Limit) → SoundLimit l → SoundModelEnd (end_of l)
 sound_end Below h = tt
@@ -87,27 +109,30 @@ model_name : (o : Option (List ℕ)) → is_none o ≡ false → model_names o �
 model_name None h = absurd (true≢false h)
 model_name (Some n) h = refl
 
-same_names : (d : Draft) → is_none d.model ≡ false → draft_names d ≡ all_names (finished d)
-same_names d h = ap (λ ms. names_of d.variables ++ equation_names_of d.equations ++ ms) (model_name d.model h) ∙ sym (ap (λ ns. ns ++ equation_names_of d.equations ++ or_empty d.model ∷ []) (finished_names d.variables))
+same_names : (d : Draft) → is_none d.model ≡ false → undefined_from 0 d.equations ≡ None → draft_names d ≡ all_names (finished d)
+same_names d h u =
+    ap (λ ms. names_of d.variables ++ equation_names_of d.equations ++ ms) (model_name d.model h)
+    ∙ sym (ap (λ ns. ns ++ equation_names_of d.equations ++ or_empty d.model ∷ []) (finished_names d.variables))
+    ∙ sym (ap (λ es. variable_names (finished d) ++ es ++ or_empty d.model ∷ []) (defined_names 0 d.equations u))
 
-finished_sound : (d : Draft) → IsSound d → is_none d.model ≡ false → undefined_from 0 d.equations d.defined ≡ None → crossing_from 0 d.variables ≡ None → Sound (finished d)
+finished_sound : (d : Draft) → IsSound d → is_none d.model ≡ false → undefined_from 0 d.equations ≡ None → crossing_from 0 d.variables ≡ None → Sound (finished d)
 finished_sound d s m u c =
-    let e = same_names d m in
+    let e = same_names d m u in
     let size : length d.variables ≡ length (finished_variables d.variables) = sym (finished_length d.variables) in
     record {
       free = subst (All IsFree) e (All-from_recursion IsFree (draft_names d) s.names.free);
       apart = apart_pairs (all_names (finished d)) (subst Apart e s.names.apart);
       few_variables = subst (λ n. n ≤ 512) size s.few_variables;
-      few_equations = s.few_equations;
+      few_equations = omega (arith, defined_few d.equations, s.few_equations);
       variables = All-from_recursion SoundVariable (finished_variables d.variables) (variables_sound 0 d.variables s.limits c);
-      equations = subst (λ n. All (SoundEquation n) d.equations) size (All-from_recursion (SoundEquation (length d.variables)) d.equations (all_defined (length d.variables) 0 d.equations d.defined s.equations u));
+      equations = subst (λ n. All (SoundEquation n) (finished_equations d.equations)) size (All-from_recursion (SoundEquation (length d.variables)) (finished_equations d.equations) (all_defined (length d.variables) 0 d.equations s.equations u));
       goal = subst (λ n. SoundGoal n d.goal) size s.goal;
     }
 
 finish_sound : (d : Draft) (m : Model) → IsSound d → is_none d.model ≡ false → finish d ≡ Ok m → Sound m
-finish_sound d m s h e = go (undefined_from 0 d.equations d.defined) (crossing_from 0 d.variables) refl refl e
+finish_sound d m s h e = go (undefined_from 0 d.equations) (crossing_from 0 d.variables) refl refl e
   where
-    go : (u c : Option ModelFault) → undefined_from 0 d.equations d.defined ≡ u → crossing_from 0 d.variables ≡ c → finish_by (or_else u c) d ≡ Ok m → Sound m
+    go : (u c : Option ModelFault) → undefined_from 0 d.equations ≡ u → crossing_from 0 d.variables ≡ c → finish_by (or_else u c) d ≡ Ok m → Sound m
     go (Some f) c p q e = absurd (let z : ◌≡◌ {A = Result Model ModelFault} (Err f) (Ok m) = e in cc)
     go None (Some f) p q e = absurd (let z : ◌≡◌ {A = Result Model ModelFault} (Err f) (Ok m) = e in cc)
     go None None p q e = subst Sound (let z : ◌≡◌ {A = Result Model ModelFault} (Ok (finished d)) (Ok m) = e in cc) (finished_sound d s h p q)

@@ -14,7 +14,8 @@ use Rattle.emp_ast.specs.declared.model.Variable.{Variable}
 use Rattle.emp_ast.specs.declared.model.Sense.{Sense}
 use Rattle.emp_ast.specs.declared.model.Sense.TheVariants.{Min, Max}
 use Rattle.emp_ast.specs.declared.model.Model.{Model}
-use Rattle.emp_ast.specs.Expression.{Expression, number, variable, negated, joined, power, IsTreeOf}
+use Rattle.emp_ast.specs.Expression.{Expression, number, variable, negated, joined, power}
+use Rattle.emp_ast.specs.Nodes.{IsTreeOf}
 use Rattle.emp_ast.specs.Names.{variable_names, equation_names}
 
 -- ---- numerals

@@ -9,7 +9,8 @@ use Rattle.emp_ast.specs.declared.tree.Node.{Node}
 use Rattle.emp_ast.specs.declared.tree.Node.TheVariants.{Number, Var, Neg, Add, Sub, Mul, Div, Power}
 use Rattle.emp_ast.specs.declared.tree.Tree.{Tree}
 use Rattle.emp_ast.specs.declared.model.Variable.{Variable}
-use Rattle.emp_ast.specs.Expression.{Expression, number, variable, negated, joined, power, IsTreeOf}
+use Rattle.emp_ast.specs.Expression.{Expression, number, variable, negated, joined, power}
+use Rattle.emp_ast.specs.Nodes.{IsTreeOf}
 use Rattle.gms_print.specs.declared.shape.Shape.{Shape}
 use Rattle.gms_print.specs.declared.shape.Shape.TheVariants.{Base, Raised, Product, Sum}
 use Rattle.gms_print.specs.declared.mark.Mark.{Mark}
