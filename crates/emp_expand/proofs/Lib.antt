@@ -1,0 +1,12 @@
+pub mod Keys
+pub mod DegreeLaws
+pub mod Moving
+pub mod Standing
+pub mod Gathering
+pub mod Listing
+pub mod Filling
+pub mod Cells
+pub mod Degrees
+pub mod Powering
+pub mod Stacks
+pub mod Leaves

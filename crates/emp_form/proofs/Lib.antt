@@ -1,0 +1,5 @@
+pub mod Lines
+pub mod FormLaws
+pub mod Running
+pub mod Formulas
+pub mod Vanishing

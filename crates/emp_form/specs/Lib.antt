@@ -1,0 +1,5 @@
+pub mod Form
+pub mod Expansion
+pub mod Calls
+pub mod Wide
+pub mod Laws
