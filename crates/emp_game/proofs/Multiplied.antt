@@ -235,7 +235,7 @@ same_total (r ∷ rs) (f ∷ fs) e ys h =
     total_more (charge r (unsigned_by r.relation f)) (charged rs (unsigned rs fs)) e ys
     ∙ (ap₂ (λ s t. s +ℤ t) (unsigned_term r.relation r.row f e ys) (same_total rs fs e ys (omega arith)) ∙ sym (total_more (with_factor (signed_by r.relation r.row) f) (weigh (signed rs) fs) e ys))
 
-scaled_total : (c : ℤ) (rs : List Rule) (us : List ℤ) (e : ℤ) (ys : List ℤ) → total_at (charged rs (scale c us)) e ys ≡ c *ℤ total_at (charged rs us) e ys
+pub scaled_total : (c : ℤ) (rs : List Rule) (us : List ℤ) (e : ℤ) (ys : List ℤ) → total_at (charged rs (scale c us)) e ys ≡ c *ℤ total_at (charged rs us) e ys
 scaled_total c [] us e ys = no_charge e ∙ sym (ap (λ z. c *ℤ z) (no_charge e) ∙ *ℤ-zero c)
 scaled_total c (r ∷ rs) [] e ys = no_charge e ∙ sym (ap (λ z. c *ℤ z) (no_charge e) ∙ *ℤ-zero c)
 scaled_total c (r ∷ rs) (u ∷ us) e ys =
@@ -298,7 +298,7 @@ signed_scaled c h (r ∷ rs) (u ∷ us) d xs p s = (sign_scaled r.relation c u p
     slack (inr e) = inr (ap (λ z. c *ℤ z) e ∙ *ℤ-zero c)
 
 -- ---- what is charged, at the point by larger numbers
-flow_scaled : (h : ℤ) (ks : List ℕ) (fs : List Row) (d : ℤ) (xs ys : List ℤ) → dot (flow_row ks fs (h *ℤ d) (scale h xs)) ys ≡ h *ℤ dot (flow_row ks fs d xs) ys
+pub flow_scaled : (h : ℤ) (ks : List ℕ) (fs : List Row) (d : ℤ) (xs ys : List ℤ) → dot (flow_row ks fs (h *ℤ d) (scale h xs)) ys ≡ h *ℤ dot (flow_row ks fs d xs) ys
 flow_scaled h [] fs d xs ys = sym (*ℤ-zero h)
 flow_scaled h (k ∷ ks) [] d xs ys = sym (*ℤ-zero h)
 flow_scaled h (k ∷ ks) (f ∷ fs) d xs ys =
@@ -331,7 +331,7 @@ same_value h (flow fs) own rs us d xs e ys =
     refl)
 
 -- ---- the law
-unscaled : (own : ℕ → Bool) (h d : ℤ) (xs : List ℤ) (e : ℤ) (ys : List ℤ) → pos 0 <ℤ h → Agrees own (h *ℤ d) (scale h xs) e ys → Agrees own d xs e ys
+pub unscaled : (own : ℕ → Bool) (h d : ℤ) (xs : List ℤ) (e : ℤ) (ys : List ℤ) → pos 0 <ℤ h → Agrees own (h *ℤ d) (scale h xs) e ys → Agrees own d xs e ys
 unscaled own h d xs e ys p a k o =
     cancel_right (cell ys k *ℤ d) (cell xs k *ℤ e) h
     (by_ring (cell ys k ∷ d ∷ h ∷ []) (var 0 ⊗ var 1 ⊗ var 2) (var 0 ⊗ (var 2 ⊗ var 1)) refl ∙ (a k o ∙ (ap (λ z. z *ℤ e) (cell-scale h xs k) ∙ by_ring (h ∷ cell xs k ∷ e ∷ []) (var 0 ⊗ var 1 ⊗ var 2) (var 1 ⊗ var 2 ⊗ var 0) refl))) p

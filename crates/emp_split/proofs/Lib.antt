@@ -1,0 +1,5 @@
+pub mod Each
+pub mod Places
+pub mod Scaling
+pub mod Complete
+pub mod Lifting

@@ -1,0 +1,4 @@
+pub mod Games
+pub mod Numbers
+pub mod Meaning
+pub mod Laws
