@@ -7,6 +7,7 @@ use Rattle.emp_line.specs.declared.line.Line.{Line}
 use Rattle.emp_line.specs.Pivot.{no_line, turned, pivoted}
 use Rattle.emp_line.specs.Lines.{IsLine}
 use Rattle.emp_line.proofs.Sound.{turned_sound}
+use Rattle.emp_line.proofs.Lowest.{pivoted_lowest}
 use Rattle.emp_line.proofs.Kept.{pivoted_from_sound}
 use Rattle.emp_dict.specs.declared.label.Label.{Label}
 use Rattle.emp_dict.specs.declared.label.Label.TheVariants.{Objective}
@@ -20,6 +21,7 @@ marked_sound d k m s =
     let e : length (set d.marks (k - 1) m) ≡ length d.marks = length-set d.marks (k - 1) m in
     record {
       lines = s.lines;
+      lowest = s.lowest;
       count = s.count;
       quantities = omega (arith, e, s.quantities);
       one_objective = omega (arith, e, s.one_objective);
@@ -118,6 +120,7 @@ module _ (d : Dictionary) (r j : ℕ) (ls : List Line) (s : IsSound d) (row_in :
   pub exchange_sound : IsSound u
   exchange_sound = record {
     lines = subst (λ n. All (IsLine n) ls) (sym column_count) kept.0;
+    lowest = pivoted_lowest (length d.columns) r j d.lines ls (omega (arith, s.count)) column_in s.lines nonzero s.lowest e;
     count = row_count ∙ (s.count ∙ sym kept.1);
     quantities = omega (arith, row_count, s.quantities);
     one_objective = omega (arith, row_count, s.one_objective);

@@ -10,7 +10,8 @@ use Rattle.emp_algebra.specs.Vector.{cell, dot}
 use Rattle.emp_algebra.proofs.Laws.{one-*ℤ}
 use Rattle.emp_line.specs.declared.line.Line.{Line}
 use Rattle.emp_line.specs.Pivot.{no_line}
-use Rattle.emp_line.specs.Lines.{IsLine}
+use Rattle.emp_line.specs.Lines.{IsLine, IsLowest}
+use Rattle.emp_line.proofs.Lowest.{one_lowest}
 use Rattle.emp_rows.specs.declared.affine.Affine.{Affine}
 use Rattle.emp_rows.specs.Affine.{IsRow}
 use Rattle.emp_rows.specs.Systems.{IsSystem}
@@ -111,6 +112,11 @@ start_lines base [] None h k = All-nil (IsLine base)
 start_lines base [] (Some r) h k = All-cons (IsLine base) (line_of r) [] (row_line base r (k r refl)) (All-nil (IsLine base))
 start_lines base (q ∷ qs) o h k = All-cons (IsLine base) (line_of q) (map line_of qs ++ objective_lines o) (row_line base q (All-head (IsRow base) q qs h)) (start_lines base qs o (All-tail (IsRow base) q qs h) k)
 
+start_lowest : (qs : List Affine) (o : Option Affine) → All IsLowest (map line_of qs ++ objective_lines o)
+start_lowest [] None = All-nil IsLowest
+start_lowest [] (Some r) = All-cons IsLowest (line_of r) [] (one_lowest (line_of r) refl) (All-nil IsLowest)
+start_lowest (q ∷ qs) o = All-cons IsLowest (line_of q) (map line_of qs ++ objective_lines o) (one_lowest (line_of q) refl) (start_lowest qs o)
+
 module _ (base : ℕ) (qs : List Affine) (o : Option Affine) where
   abbrev d : Dictionary
   d = started base qs o
@@ -180,6 +186,7 @@ module _ (base : ℕ) (qs : List Affine) (o : Option Affine) where
   pub start_sound : base ≤ 256 → length qs ≤ 512 → All (IsRow base) qs → ((r : Affine) → o ≡ Some r → IsRow base r) → IsSound d
   start_sound few_bases few_quantities rows objective = record {
     lines = subst (λ n. All (IsLine n) d.lines) (sym columns_are) (start_lines base qs o rows objective);
+    lowest = start_lowest qs o;
     count = rows_are ∙ (ap (λ n. length qs + n) (as_many o) ∙ sym lines_are);
     quantities = omega (arith, rows_are, marks_are);
     one_objective = let f = few o in omega (arith, rows_are, marks_are);

@@ -5,7 +5,7 @@ use Rattle.std.specs.List.{All}
 use Rattle.emp_algebra.specs.Vector.{cell, dot}
 use Rattle.emp_line.specs.declared.line.Line.{Line}
 use Rattle.emp_line.specs.Pivot.{no_line, pivoted}
-use Rattle.emp_line.specs.Lines.{IsLine}
+use Rattle.emp_line.specs.Lines.{IsLine, IsLowest}
 use Rattle.emp_rows.specs.declared.affine.Affine.{Affine}
 use Rattle.emp_dict.specs.declared.label.Label.{Label}
 use Rattle.emp_dict.specs.declared.label.Label.TheVariants.{Base, Quantity, Objective}
@@ -113,9 +113,11 @@ abbrev pub stands : Label → List Label → Bool
 stands w [] = false
 stands w (v ∷ vs) = label_eq v w || stands w vs
 
--- every label has one place, that of the objective is the last row, and denominators are above 0
+-- every label has one place, and that of the objective is the last row; denominators are above 0, and no number above 1 divides all numbers of
+-- a row
 pub record IsSound (d : Dictionary) : Type 0 where
   pub lines : All (IsLine (length d.columns)) d.lines
+  pub lowest : All IsLowest d.lines
   pub count : length d.rows ≡ length d.lines
   pub quantities : length d.marks ≤ length d.rows
   pub one_objective : length d.rows ≤ length d.marks + 1

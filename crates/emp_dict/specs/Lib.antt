@@ -3,3 +3,4 @@ pub mod Chosen
 pub mod Laws
 pub mod Dicts
 pub mod Places
+pub mod Example

@@ -11,3 +11,4 @@ pub mod Small
 pub mod Whole
 pub mod Exactly
 pub mod Halving
+pub mod Lowest

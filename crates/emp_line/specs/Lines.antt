@@ -1,7 +1,8 @@
 -- Lines as the code keeps them.
-use Rattle.std.specs.Prelude.{◌≡◌, ℕ, pos, ◌<ℤ◌, cond, length, Option, Some, nat_eq}
+use Rattle.std.specs.Prelude.{◌≡◌, ℕ, pos, ◌<ℤ◌, cond, length, ◌∷◌, Option, Some, nat_eq}
 use Rattle.std.specs.List.{All}
 use Rattle.emp_num.specs.Exact.{IsNarrow}
+use Rattle.emp_num.specs.Gcd.{content_of}
 use Rattle.emp_line.specs.declared.line.Line.{Line}
 use Rattle.emp_line.specs.Pivot.{moved}
 
@@ -12,6 +13,10 @@ pub record IsLine (columns : ℕ) (l : Line) : Type 0 where
   pub denom : IsNarrow l.denom
   pub constant : IsNarrow l.constant
   pub cells : All IsNarrow l.cells
+
+-- no number above 1 divides all numbers of the line
+abbrev pub IsLowest : Line → Type 0
+IsLowest l = content_of (l.denom ∷ l.constant ∷ l.cells) ≡ 1
 
 -- line number `at` after the pivot of line r, which is turned into t
 abbrev pub line_after : ℕ → Line → ℕ → ℕ → Line → Option Line
