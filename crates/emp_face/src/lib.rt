@@ -4,5 +4,5 @@
 
 pub mod budget;
 mod look;
-pub mod run;
+mod run;
 pub mod steps;
