@@ -202,7 +202,7 @@ map_count : (q : Quadratic) (js : List ℕ) → length (map (derivative q) js) �
 map_count q [] = refl
 map_count q (j ∷ js) = ap suc (map_count q js)
 
-derivatives_count : (n : ℕ) (p : Purpose) (own : List ℕ) (rules : List Rule) → IsPurpose n own p → length (derivatives (record { own = own; purpose = p; rules = rules })) ≡ length own
+pub derivatives_count : (n : ℕ) (p : Purpose) (own : List ℕ) (rules : List Rule) → IsPurpose n own p → length (derivatives (record { own = own; purpose = p; rules = rules })) ≡ length own
 derivatives_count n (goal q) own rules h = map_count q own
 derivatives_count n (flow fs) own rules h = h.0
 

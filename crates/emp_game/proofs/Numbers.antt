@@ -149,7 +149,7 @@ complementary x y h k f = (h, k, go (none_or_above y k))
     go (inr l) = inl (f l)
 
 -- from both signs: never above 0 where it may fall, never below 0 where it may rise
-level_between : (m : Bool) (a b : Frac) (d x g : ℤ) → ends_meet a b ≡ m → pos 0 ≤ℤ over_low a d x → pos 0 ≤ℤ under_high b d x → (pos 0 <ℤ over_low a d x → g ≤ℤ pos 0) → (pos 0 <ℤ under_high b d x → pos 0 ≤ℤ g) → BetweenHolds m a b d x g (negative_part g)
+pub level_between : (m : Bool) (a b : Frac) (d x g : ℤ) → ends_meet a b ≡ m → pos 0 ≤ℤ over_low a d x → pos 0 ≤ℤ under_high b d x → (pos 0 <ℤ over_low a d x → g ≤ℤ pos 0) → (pos 0 <ℤ under_high b d x → pos 0 ≤ℤ g) → BetweenHolds m a b d x g (negative_part g)
 level_between true a b d x g m low high falls rises =
     let same = ends_same a b m in
     let left : d *ℤ (a.num *ℤ b.den) ≡ d *ℤ (b.num *ℤ a.den) = ap (λ z. d *ℤ z) same in

@@ -21,7 +21,7 @@ use Rattle.emp_split.proofs.Scaling.{scale_one, obeys_scaled, leader_scaled, res
 use Rattle.emp_split.proofs.Complete.{map_rules, Completed, completed}
 
 -- ---- sound
-holder_twice : (g : Game) (j e : ℕ) → holder g (holder g j e) e ≡ holder g j e
+pub holder_twice : (g : Game) (j e : ℕ) → holder g (holder g j e) e ≡ holder g j e
 holder_twice g j e = go (names g.visols e) refl
   where
     go : (b : Bool) → names g.visols e ≡ b → holder g (holder g j e) e ≡ holder g j e
@@ -56,13 +56,13 @@ split_is_admissible g d nums kept p s = record {
     every P j (pl ∷ pls) f = (f j pl, every P (suc j) pls f)
 
 -- ---- lifts
-front_is : (n : ℕ) (xs zs : List ℤ) → length xs ≡ n → take n (xs ++ zs) ≡ xs
+pub front_is : (n : ℕ) (xs zs : List ℤ) → length xs ≡ n → take n (xs ++ zs) ≡ xs
 front_is zero [] zs h = refl
 front_is zero (x ∷ xs) zs h = absurd (omega arith)
 front_is (suc n) [] zs h = absurd (omega arith)
 front_is (suc n) (x ∷ xs) zs h = ap (λ (ys : List ℤ). x ∷ ys) (front_is n xs zs (omega arith))
 
-map_count : (f : ℕ → ℕ → ℤ) (ts : List Slot) → length (map (λ t. f t.0 t.1) ts) ≡ length ts
+pub map_count : (f : ℕ → ℕ → ℤ) (ts : List Slot) → length (map (λ t. f t.0 t.1) ts) ≡ length ts
 map_count f [] = refl
 map_count f (t ∷ ts) = ap suc (map_count f ts)
 

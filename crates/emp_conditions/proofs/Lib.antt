@@ -1,0 +1,5 @@
+pub mod Values
+pub mod Ranges
+pub mod Sound
+pub mod Distinct
+pub mod Lifting
