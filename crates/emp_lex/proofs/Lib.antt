@@ -7,4 +7,5 @@ pub mod TokenBytes
 pub mod Longest
 pub mod Trims
 pub mod Lexing
+pub mod Existing
 pub mod WordLists

@@ -310,7 +310,7 @@ step_bounds begins text (Stop BadByte) e =
     (λ _ g. absurd (never_bad text (directive text) g))
     (λ _ g. subst (Bounds text) g (piece_bounds text)))
 
-form_some : (k : TokenKind) (p : List ℕ) → HasForm k p → 0 < length p
+pub form_some : (k : TokenKind) (p : List ℕ) → HasForm k p → 0 < length p
 form_some k (b ∷ bs) h = omega arith
 form_some Name [] h = absurd (false≢true h.letter)
 form_some Numeral [] h = absurd (false≢true h)
@@ -381,7 +381,7 @@ module _ (text : List ℕ) (n : ℕ) where
   dollar_passed Ends q e h = absurd (cc)
   dollar_passed Unknown q e h = absurd (cc)
 
-  step_passed : (begins : Bool) → step begins text ≡ Skip n → IsPassed begins text n
+  pub step_passed : (begins : Bool) → step begins text ≡ Skip n → IsPassed begins text n
   step_passed false e = piece_passed false e
   step_passed true e =
       either (IsPassed true text n) (begins_with 42 text) (Skip (run_size Line text)) _ (Skip n) e

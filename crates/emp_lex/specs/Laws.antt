@@ -1,5 +1,5 @@
 -- What the layers above know of tokens.
-use Rattle.std.specs.Prelude.{◌≡◌, ℕ, ◌≤◌, Bool, List, ◌++◌, length, All}
+use Rattle.std.specs.Prelude.{◌≡◌, ◌⊎◌, ℕ, ◌≤◌, Bool, List, ◌++◌, length, All}
 use Rattle.emp_lex.specs.declared.token.Token.{Token}
 use Rattle.emp_lex.specs.declared.token.TokenKind.{TokenKind}
 use Rattle.emp_lex.specs.declared.piece.Step.TheVariants.{Skip, Take, Stop}
@@ -10,8 +10,9 @@ use Rattle.emp_lex.specs.Forms.{HasForm, IsFormed}
 use Rattle.emp_lex.specs.Passed.{IsPassed}
 use Rattle.emp_lex.specs.Pieces.{step}
 
--- a text has one list of tokens or one first fault, and not both
+-- each text has a list of tokens or a first fault, one of them, and not both
 pub record OneReading : Type 0 where
+  pub some : (text : List ℕ) → ((ts : List Token) × IsTokenList text ts) ⊎ ((f : LexFault) × IsFirstFault text f)
   pub one_list : (text : List ℕ) (ts us : List Token) → IsTokenList text ts → IsTokenList text us → ts ≡ us
   pub one_fault : (text : List ℕ) (f g : LexFault) → IsFirstFault text f → IsFirstFault text g → f ≡ g
   pub not_both : (text : List ℕ) (ts : List Token) (f : LexFault) → IsTokenList text ts → IsFirstFault text f → ⊥

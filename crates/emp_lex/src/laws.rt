@@ -3,7 +3,7 @@
 //! No function here runs.
 ghost use Rattle.emp_lex.specs.Laws.{OneReading, OnlyNothingIsPassed, TokensAreLongest, TokensHaveForms};
 
-/// A text has one list of tokens or one first fault, and not both.
+/// Each text has a list of tokens or a first fault, one of them, and not both.
 pub fn one_reading()
     ensures { OneReading }
 {}

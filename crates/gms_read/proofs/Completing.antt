@@ -1,5 +1,5 @@
 -- What is still to come can come: each stack that the machine reaches has lexemes that complete it.
-use Rattle.std.proofs.Common.{◌≡◌, ℕ, Bool, true, false, cond, IsTrue, List, [], ◌∷◌, ◌++◌, Option, Some, None, refl, sym, ap, subst, ◌∙◌}
+use Rattle.std.proofs.Common.{◌≡◌, Bool, true, false, cond, IsTrue, List, [], ◌∷◌, ◌++◌, Option, Some, None, refl, sym, ap, subst}
 use Rattle.std.specs.Option.{option_to_list}
 use Rattle.emp_num.specs.Whole.{whole}
 use Rattle.emp_ast.specs.declared.model.Sense.{Sense}
@@ -19,11 +19,11 @@ use Rattle.gms_read.specs.declared.symbol.Want.TheVariants.{Variables as WantVar
 use Rattle.gms_read.specs.declared.symbol.Symbol.{Symbol}
 use Rattle.gms_read.specs.declared.symbol.Symbol.TheVariants.{File, Semicolons, Single, Write, Names, OptionalText, MoreNames, AfterName, Attribute, Value, SignedValue, Comparison, ModelName, Everything, SolveName, Goal, Aim, Sum as SumSymbol, Factor as FactorSymbol, AfterLeaf, MorePower, Exponent, MoreFactors, MoreTerms, MoreArguments, Closing}
 use Rattle.gms_read.specs.declared.symbol.Next.{Next}
-use Rattle.gms_read.specs.declared.symbol.Next.TheVariants.{Nothing, One, Two, Three, Four}
+use Rattle.gms_read.specs.declared.symbol.Next.TheVariants.{Nothing, One, Two, Three}
 use Rattle.gms_read.specs.declared.symbol.Move.{Move}
 use Rattle.gms_read.specs.declared.symbol.Move.TheVariants.{Fail, Skip, Take}
 use Rattle.gms_read.specs.Grammar.{signed_limit}
-use Rattle.gms_read.specs.Machine.{declared, wanted, is_wanted, single_move, after_leaf_move, more_power_move, more_factors_move, more_terms_move, optional_text_move, move, symbols, State, add, by_move, step}
+use Rattle.gms_read.specs.Machine.{declared, wanted, is_wanted, after_leaf_move, more_power_move, more_factors_move, more_terms_move, optional_text_move, move, symbols, State, add, by_move, step}
 use Rattle.gms_read.proofs.Writing.{Writes, over, takes, skips}
 
 -- ---- stacks that the machine reaches

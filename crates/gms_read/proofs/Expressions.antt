@@ -6,7 +6,7 @@ use Rattle.emp_ast.specs.declared.tree.Place.{Place}
 use Rattle.emp_ast.specs.declared.tree.Operator.{Operator}
 use Rattle.emp_ast.specs.declared.tree.Node.{Node}
 use Rattle.emp_ast.specs.declared.tree.Node.TheVariants.{Neg, Power}
-use Rattle.emp_ast.specs.Expression.{Expression, number, variable, negated, joined as joined_with, power}
+use Rattle.emp_ast.specs.Expression.{Expression, number, variable, joined as joined_with, power}
 use Rattle.emp_ast.specs.Nodes.{size, root, nodes_from, join_node}
 use Rattle.emp_ast.proofs.Trees.{length_nodes}
 use Rattle.gms_read.specs.declared.lexeme.Word.TheVariants.{Square, Power as PowerWord}

@@ -3,6 +3,7 @@ pub mod Arguments
 pub mod Complete
 pub mod Completing
 pub mod Declaring
+pub mod Existing
 pub mod Expressions
 pub mod Finishes
 pub mod Formed

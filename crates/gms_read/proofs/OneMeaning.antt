@@ -17,6 +17,7 @@ use Rattle.gms_read.specs.Laws.{OneModel}
 use Rattle.gms_read.proofs.OneText.{one_lexemes, none_with_fault}
 use Rattle.gms_read.proofs.Agree.{one_items}
 use Rattle.gms_read.proofs.Places.{one_place, not_wrong}
+use Rattle.gms_read.proofs.Existing.{model_or_fault}
 use Rattle.gms_read.proofs.Performed.{same_drafts}
 
 one_meaning_of : (text : List ℕ) (ss us : List Statement) → HasStatements text ss → HasStatements text us → whole_meaning text ss ≡ whole_meaning text us
@@ -104,6 +105,7 @@ module _ (text : List ℕ) where
 
 pub one_model : OneModel
 one_model = record {
+  some = model_or_fault;
   one = λ text m n g h. ok_one m n (one_meaning text (Ok m) (Ok n) g h);
   one_fault = λ text f g h k. same text f g (view text f h) (view text g k);
   not_both = λ text m f g h. model_or text m f g (view text f h);

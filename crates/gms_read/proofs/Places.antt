@@ -1,5 +1,5 @@
 -- The place at which lexemes stop beginning a grammatical text: the machine finds it, and it is one.
-use Rattle.std.proofs.Common.{◌≡◌, ◌<◌, ◌≤◌, ◌+◌, ℕ, Bool, true, false, cond, List, [], ◌∷◌, ◌++◌, Option, Some, None, inl, inr, ◌⊎◌, refl, sym, ap, subst, ◌∙◌, take, drop, get_or, length, append_assoc, append-nil}
+use Rattle.std.proofs.Common.{◌≡◌, ◌<◌, ◌≤◌, ◌+◌, ℕ, Bool, true, false, cond, List, [], ◌∷◌, ◌++◌, Option, Some, None, inl, inr, refl, sym, ap, subst, ◌∙◌, take, drop, get_or, length, append_assoc, append-nil}
 use Rattle.std.proofs.lemmas.List.{take_more, take_all, take-append-drop, drop_more}
 use Rattle.emp_ast.specs.declared.tree.Place.{Place}
 use Rattle.gms_read.specs.declared.fault.ModelFault.TheVariants.{Syntax}
@@ -9,12 +9,12 @@ use Rattle.gms_read.specs.declared.symbol.Symbol.{Symbol}
 use Rattle.gms_read.specs.declared.symbol.Symbol.TheVariants.{File}
 use Rattle.gms_read.specs.Grammar.{Statement, IsFile}
 use Rattle.gms_read.specs.Items.{items_of}
-use Rattle.gms_read.specs.Syntax.{BeginsText, StandsForNone, StopsAt, IsUnfinished, IsWrongAt}
+use Rattle.gms_read.specs.Syntax.{BeginsText, IsWrongAt}
 use Rattle.gms_read.specs.Steps.{AreItems, RefusesLexemes}
 use Rattle.gms_read.specs.Machine.{State, run, run_from, step, is_over, Steps}
 use Rattle.gms_read.proofs.Writing.{runs}
 use Rattle.gms_read.proofs.Complete.{file_read}
-use Rattle.gms_read.proofs.Completing.{Settled, Ending, completes, settled_step}
+use Rattle.gms_read.proofs.Completing.{Settled, completes, settled_step}
 use Rattle.gms_read.proofs.Agree.{reading, accepted, none_some, refused}
 
 -- the machine has taken the lexemes and stands there

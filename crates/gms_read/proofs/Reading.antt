@@ -164,8 +164,15 @@ finish_rule (Some g) d f h e = let q : g ≡ f = cc in subst IsRule q h
 step_fault : (s : Step) (f : ModelFault) → MayStep s → s ≡ Err f → IsRule f
 step_fault s f h e = subst MayStep e h
 
+pub meaning_rule : (text : List ℕ) (ss : List Statement) (f : ModelFault) → whole_meaning text ss ≡ Err f → IsRule f
+meaning_rule text ss f e = go (after_all text nothing_yet ss) (after_all_rule text nothing_yet ss) e
+  where
+    go : (s : Step) → MayStep s → whole_meaning_by s ≡ Err f → IsRule f
+    go (Err g) h k = step_fault (Err g) f h (let q : ◌≡◌ {A = Result WholeModel ModelFault} (Err g) (Err f) = k in cc)
+    go (Ok d) h k = finish_rule _ d f (either _ _ (undefined_rule 0 d.equations) (crossing_rule 0 d.variables)) k
+
 -- ---- what a refusal says
-rule_fault : (text : List ℕ) (f : ModelFault) → IsRule f → Gives text (Err f) → HasFault text f
+pub rule_fault : (text : List ℕ) (f : ModelFault) → IsRule f → Gives text (Err f) → HasFault text f
 rule_fault text (Lex f) h g = absurd h
 rule_fault text (Syntax p) h g = absurd h
 rule_fault text (Undeclared p) h g = g

@@ -1,14 +1,12 @@
 -- What statements do, one by one in text order: they declare, define and set, or they break a rule. The first rule that is
 -- broken is the fault, at the place of its name or operator.
-use Rattle.std.specs.Prelude.{ℕ, zero, suc, ◌+◌, ℤ, pos, Bool, true, false, cond, not, ◌&&◌, nat_lt, nat_le, int_lt, List, [], ◌∷◌, ◌++◌, length, slice_set, slice_index_or, bytes_eq, Option, Some, None, Result, Ok, Err, ◌*ℤ◌}
-use Rattle.emp_num.specs.declared.frac.Frac.{Frac}
+use Rattle.std.specs.Prelude.{ℕ, ◌+◌, Bool, true, false, cond, not, ◌&&◌, nat_lt, int_lt, List, [], ◌∷◌, ◌++◌, length, slice_set, slice_index_or, Option, Some, None, Result, Ok, Err, ◌*ℤ◌}
 use Rattle.emp_num.specs.Whole.{whole}
 use Rattle.emp_list.specs.Case.{lower}
 use Rattle.emp_ast.specs.declared.tree.Place.{Place}
 use Rattle.emp_ast.specs.declared.tree.Tree.{Tree}
 use Rattle.emp_ast.specs.declared.tree.VarId.{VarId}
 use Rattle.emp_ast.specs.declared.model.Relation.{Relation}
-use Rattle.emp_ast.specs.declared.model.Relation.TheVariants.{Nothing}
 use Rattle.emp_ast.specs.declared.model.Equation.{Equation}
 use Rattle.emp_ast.specs.declared.model.Variable.{Variable}
 use Rattle.emp_ast.specs.declared.model.End.{End}

@@ -3,7 +3,7 @@
 //! No function here runs.
 ghost use Rattle.gms_read.specs.Laws.{OneModel};
 
-/// A text stands for one model or has one fault, its place included, and not both.
+/// Each text stands for a model or has a fault, its place included, one of them, and not both.
 pub fn one_model()
     ensures { OneModel }
 {}
