@@ -1,5 +1,5 @@
 -- A text of a model of distinct names has one list of lexemes, and so one annotation or one fault.
-use Rattle.std.proofs.Common.{◌≡◌, ◌⊎◌, inl, inr, ℕ, List, [], ◌∷◌, Option, Some, None, refl, sym, ap, subst, ◌∙◌, slice_range}
+use Rattle.std.proofs.Common.{◌≡◌, ℕ, List, [], ◌∷◌, Option, Some, None, refl, sym, ap, subst, ◌∙◌, slice_range}
 use Rattle.emp_ast.specs.declared.model.Model.{Model}
 use Rattle.emp_ast.specs.declared.annot.Annot.{Annot}
 use Rattle.emp_ast.specs.Names.{variable_names, equation_names, Finds}
@@ -17,7 +17,7 @@ use Rattle.info_read.specs.declared.fault.InfoFault.TheVariants.{Lex, Syntax, Un
 use Rattle.info_read.specs.Lexemes.{keyword, IsNoun, a_variable, an_equation, unknown, IsNameSort, IsSort, AreLexemes}
 use Rattle.info_read.specs.Grammar.{Stands}
 use Rattle.info_read.specs.Faults.{HasFault}
-use Rattle.info_read.specs.Texts.{HasLexemes, IsInfoText, HasInfoFault, RefusesInfo}
+use Rattle.info_read.specs.Texts.{HasLexemes, IsInfoText, HasLexemeFault, HasInfoFault}
 use Rattle.info_read.specs.Laws.{AreDistinct, HasDistinctNames, OneAnnotation}
 use Rattle.info_read.proofs.Agree.{one_annot}
 use Rattle.info_read.proofs.FirstFault.{one_fault, not_both}
@@ -74,40 +74,35 @@ module _ (m : Model) (d : HasDistinctNames m) where
   one : (text : List ℕ) (a b : Annot) → IsInfoText text m a → IsInfoText text m b → a ≡ b
   one text a b h g = one_annot h.lexemes a b h.stands (subst (λ ts. Stands ts b) (one_lexemes text g.lexemes h.lexemes g.has h.has) g.stands)
 
-  -- a refusal is want of memory, a fault of the tokens, or one of the lexemes
-  data IsRefusal (text : List ℕ) : InfoFault → Type 0 where
-    for_memory : IsRefusal text NoMemory
-    of_tokens : (l : LexFault) → IsFirstFault text l → IsRefusal text (Lex l)
-    of_lexemes : (f : InfoFault) → HasInfoFault text m f → IsRefusal text f
+  -- a fault is one of the tokens, or one of the lexemes
+  data IsFault (text : List ℕ) : InfoFault → Type 0 where
+    of_tokens : (l : LexFault) → IsFirstFault text l → IsFault text (Lex l)
+    of_lexemes : (f : InfoFault) → HasLexemeFault text m f → IsFault text f
 
-  refusal : (text : List ℕ) (f : InfoFault) → RefusesInfo text m f → IsRefusal text f
-  refusal text (Lex l) h = of_tokens l h
-  refusal text (Syntax p) h = of_lexemes (Syntax p) h
-  refusal text (UnknownName p) h = of_lexemes (UnknownName p) h
-  refusal text (WrongKind p) h = of_lexemes (WrongKind p) h
-  refusal text NoMemory h = for_memory
+  fault : (text : List ℕ) (f : InfoFault) → HasInfoFault text m f → IsFault text f
+  fault text (Lex l) h = of_tokens l h
+  fault text (Syntax p) h = of_lexemes (Syntax p) h
+  fault text (UnknownName p) h = of_lexemes (UnknownName p) h
+  fault text (WrongKind p) h = of_lexemes (WrongKind p) h
+  fault text NoMemory h = absurd h
 
-  same_fault : (text : List ℕ) (f g : InfoFault) → HasInfoFault text m f → HasInfoFault text m g → f ≡ g
+  same_fault : (text : List ℕ) (f g : InfoFault) → HasLexemeFault text m f → HasLexemeFault text m g → f ≡ g
   same_fault text f g h k =
       one_fault (past start text) h.lexemes f g h.fault (subst (λ ts. HasFault ts (past start text) g) (one_lexemes text k.lexemes h.lexemes k.has h.has) k.fault)
 
-  refusals : (text : List ℕ) (f g : InfoFault) → IsRefusal text f → IsRefusal text g → (f ≡ NoMemory) ⊎ ((g ≡ NoMemory) ⊎ (f ≡ g))
-  refusals text f g for_memory k = inl refl
-  refusals text f g (of_tokens l h) for_memory = inr (inl refl)
-  refusals text f g (of_tokens l h) (of_tokens n k) = inr (inr (ap Lex (one_lex_fault text l n h k)))
-  refusals text f g (of_tokens l h) (of_lexemes x k) = absurd (not_both_lex text k.has.tokens l k.has.cut h)
-  refusals text f g (of_lexemes x h) for_memory = inr (inl refl)
-  refusals text f g (of_lexemes x h) (of_tokens n k) = absurd (not_both_lex text h.has.tokens n h.has.cut k)
-  refusals text f g (of_lexemes x h) (of_lexemes y k) = inr (inr (same_fault text x y h k))
+  faults : (text : List ℕ) (f g : InfoFault) → IsFault text f → IsFault text g → f ≡ g
+  faults text f g (of_tokens l h) (of_tokens n k) = ap Lex (one_lex_fault text l n h k)
+  faults text f g (of_tokens l h) (of_lexemes x k) = absurd (not_both_lex text k.has.tokens l k.has.cut h)
+  faults text f g (of_lexemes x h) (of_tokens n k) = absurd (not_both_lex text h.has.tokens n h.has.cut k)
+  faults text f g (of_lexemes x h) (of_lexemes y k) = same_fault text x y h k
 
-  never : (text : List ℕ) (a : Annot) (f : InfoFault) → IsInfoText text m a → IsRefusal text f → f ≡ NoMemory
-  never text a f h for_memory = refl
-  never text a f h (of_tokens l k) = absurd (not_both_lex text h.has.tokens l h.has.cut k)
-  never text a f h (of_lexemes x k) = absurd (not_both (past start text) k.lexemes a x (subst (λ ts. Stands ts a) (one_lexemes text h.lexemes k.lexemes h.has k.has) h.stands) k.fault)
+  never : (text : List ℕ) (a : Annot) (f : InfoFault) → IsInfoText text m a → IsFault text f → ⊥
+  never text a f h (of_tokens l k) = not_both_lex text h.has.tokens l h.has.cut k
+  never text a f h (of_lexemes x k) = not_both (past start text) k.lexemes a x (subst (λ ts. Stands ts a) (one_lexemes text h.lexemes k.lexemes h.has k.has) h.stands) k.fault
 
 pub one_annotation : OneAnnotation
 one_annotation = record {
   one = λ text m a b d h g. one m d text a b h g;
-  one_fault = λ text m f g d h k. refusals m d text f g (refusal m d text f h) (refusal m d text g k);
-  not_both = λ text m a f d h k. never m d text a f h (refusal m d text f k);
+  one_fault = λ text m f g d h k. faults m d text f g (fault m d text f h) (fault m d text g k);
+  not_both = λ text m a f d h k. never m d text a f h (fault m d text f k);
 }

@@ -1,12 +1,11 @@
 -- What the layers above know of annotations.
-use Rattle.std.specs.Prelude.{◌≡◌, ◌⊎◌, ℕ, ◌<◌, List, [], length, slice_index_or}
+use Rattle.std.specs.Prelude.{◌≡◌, ℕ, ◌<◌, List, [], length, slice_index_or}
 use Rattle.emp_list.specs.Case.{SameName}
 use Rattle.emp_ast.specs.declared.model.Model.{Model}
 use Rattle.emp_ast.specs.declared.annot.Annot.{Annot}
 use Rattle.emp_ast.specs.Names.{variable_names, equation_names}
 use Rattle.info_read.specs.declared.fault.InfoFault.{InfoFault}
-use Rattle.info_read.specs.declared.fault.InfoFault.TheVariants.{NoMemory}
-use Rattle.info_read.specs.Texts.{IsInfoText, RefusesInfo}
+use Rattle.info_read.specs.Texts.{IsInfoText, HasInfoFault}
 
 -- no two of the names are the same
 abbrev pub AreDistinct : List (List ℕ) → Type 0
@@ -19,5 +18,5 @@ pub record HasDistinctNames (m : Model) : Type 0 where
 -- in a model of distinct names a text stands for one annotation or has one fault, and not both
 pub record OneAnnotation : Type 0 where
   pub one : (text : List ℕ) (m : Model) (a b : Annot) → HasDistinctNames m → IsInfoText text m a → IsInfoText text m b → a ≡ b
-  pub one_fault : (text : List ℕ) (m : Model) (f g : InfoFault) → HasDistinctNames m → RefusesInfo text m f → RefusesInfo text m g → (f ≡ NoMemory) ⊎ ((g ≡ NoMemory) ⊎ (f ≡ g))
-  pub not_both : (text : List ℕ) (m : Model) (a : Annot) (f : InfoFault) → HasDistinctNames m → IsInfoText text m a → RefusesInfo text m f → f ≡ NoMemory
+  pub one_fault : (text : List ℕ) (m : Model) (f g : InfoFault) → HasDistinctNames m → HasInfoFault text m f → HasInfoFault text m g → f ≡ g
+  pub not_both : (text : List ℕ) (m : Model) (a : Annot) (f : InfoFault) → HasDistinctNames m → IsInfoText text m a → HasInfoFault text m f → ⊥

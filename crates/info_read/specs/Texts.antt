@@ -1,5 +1,5 @@
 -- Which annotation of a model a text stands for, and the first fault of a text that stands for none.
-use Rattle.std.specs.Prelude.{ℕ, List}
+use Rattle.std.specs.Prelude.{◌≡◌, ◌⊎◌, ℕ, List}
 use Rattle.emp_ast.specs.declared.model.Model.{Model}
 use Rattle.emp_ast.specs.declared.annot.Annot.{Annot}
 use Rattle.emp_lex.specs.declared.token.Token.{Token}
@@ -26,18 +26,22 @@ pub record IsInfoText (text : List ℕ) (m : Model) (a : Annot) : Type 0 where
   pub stands : Stands lexemes a
 
 -- the lexemes of the text have that first fault
-pub record HasInfoFault (text : List ℕ) (m : Model) (f : InfoFault) : Type 0 where
+pub record HasLexemeFault (text : List ℕ) (m : Model) (f : InfoFault) : Type 0 where
   pub lexemes : List Lexeme
   pub has : HasLexemes text m lexemes
   pub fault : HasFault lexemes (past start text) f
 
+-- the first fault of the text
+abbrev pub HasInfoFault : List ℕ → Model → InfoFault → Type 0
+HasInfoFault text m (Lex f) = IsFirstFault text f
+HasInfoFault text m (Syntax p) = HasLexemeFault text m (Syntax p)
+HasInfoFault text m (Unknown p) = HasLexemeFault text m (Unknown p)
+HasInfoFault text m (WrongKind p) = HasLexemeFault text m (WrongKind p)
+HasInfoFault text m NoMemory = ⊥
+
 -- a refusal for want of memory says nothing of the text
 abbrev pub RefusesInfo : List ℕ → Model → InfoFault → Type 0
-RefusesInfo text m (Lex f) = IsFirstFault text f
-RefusesInfo text m (Syntax p) = HasInfoFault text m (Syntax p)
-RefusesInfo text m (Unknown p) = HasInfoFault text m (Unknown p)
-RefusesInfo text m (WrongKind p) = HasInfoFault text m (WrongKind p)
-RefusesInfo text m NoMemory = Unit {0}
+RefusesInfo text m f = (f ≡ NoMemory) ⊎ HasInfoFault text m f
 
 -- what the reader answers to a fault of the lexer
 abbrev pub of_lexer : LexFault → InfoFault
