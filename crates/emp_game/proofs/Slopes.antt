@@ -40,7 +40,7 @@ zipped_named (j ∷ js) (g ∷ gs) k f (inr h) = later (nat_eq j k) (zipped_name
     later false e = e
 
 -- ---- goals
-products_row : (m : List (List ℤ)) (xs : List ℤ) (k : ℕ) → cell (products m xs) k ≡ dot (row_of m k) xs
+pub products_row : (m : List (List ℤ)) (xs : List ℤ) (k : ℕ) → cell (products m xs) k ≡ dot (row_of m k) xs
 products_row [] xs k = refl
 products_row (r ∷ rs) xs zero = refl
 products_row (r ∷ rs) xs (suc k) = products_row rs xs k
