@@ -67,6 +67,7 @@ examples_of_definitions = record {
   dual = refl;
   listed_twice = refl;
   not_listed = refl;
+  other_has = refl;
   no_equation = refl;
   no_block = refl;
   leader_defines = refl;

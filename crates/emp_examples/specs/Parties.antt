@@ -141,9 +141,10 @@ pub record ExamplesOfDefinitions : Type 0 where
   pub bounded_below : defines_c (from 0 ∷ free ∷ []) (c_is_square ∷ []) ≡ false
   -- c a dual variable
   pub dual : defines (model free_pair (c_is_square ∷ [])) (with_duals ((var 0, equ 0) ∷ []) (equilibrium (min_c (equ 0 ∷ []) ∷ []))) (block 0) 0 ≡ false
-  -- d listed by a second block, or by none
+  -- d listed by a second block, by none, or by a second block alone
   pub listed_twice : defines (model free_pair (c_is_square ∷ [])) (equilibrium (min_c (equ 0 ∷ []) ∷ Vi (var 1 ∷ []) [] (equ 0 ∷ []) ∷ [])) (block 0) 0 ≡ false
   pub not_listed : defines (model free_pair (c_is_square ∷ [])) (equilibrium (min_c [] ∷ [])) (block 0) 0 ≡ false
+  pub other_has : defines (model free_pair (c_is_square ∷ [])) (equilibrium (min_c [] ∷ Vi (var 1 ∷ []) [] (equ 0 ∷ []) ∷ [])) (block 0) 0 ≡ false
   -- an equation that is not there, and a block that is not there
   pub no_equation : defines (model free_pair (c_is_square ∷ [])) (equilibrium (min_c (equ 1 ∷ []) ∷ [])) (block 0) 1 ≡ false
   pub no_block : defines (model free_pair (c_is_square ∷ [])) (equilibrium (min_c (equ 0 ∷ []) ∷ [])) (block 1) 0 ≡ false

@@ -1,0 +1,5 @@
+pub mod Lists
+pub mod NodeLeaves
+pub mod Defining
+pub mod Ruling
+pub mod Owning

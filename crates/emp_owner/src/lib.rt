@@ -1,0 +1,16 @@
+//! Who owns each variable of a model under an annotation, and which equations define objectives.
+//!
+//! `settle` tries the twelve rules of ownership in their order. Each stands in `specs/Rules.antt` as a test of one variable
+//! or equation, and what the answer means in `specs/Settled.antt`.
+#![tactic(auto)]
+
+mod blocks;
+mod constraints;
+mod definitions;
+mod leaves;
+mod listed;
+pub mod owned;
+mod owners;
+mod rules;
+mod search;
+pub mod settle;
