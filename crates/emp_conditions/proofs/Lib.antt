@@ -3,3 +3,4 @@ pub mod Ranges
 pub mod Sound
 pub mod Distinct
 pub mod Lifting
+pub mod Examples
