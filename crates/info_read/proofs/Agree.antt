@@ -235,6 +235,22 @@ module _ (before : List Lexeme) (d : Draft) (h : run start_draft before ≡ Some
     fault_is Reserved p = no_name Reserved p (λ k. k)
     fault_is Mark p = no_name Mark p (λ k. k)
 
+-- the fault of lexemes, of which the machine takes those before one and not that one
+pub stops_there : (end : Place) (before : List Lexeme) (t : Lexeme) (after : List Lexeme) (d : Draft) → run start_draft before ≡ Some d → step d t.sort ≡ None → HasFault (before ++ t ∷ after) end (fault_at d.stage t)
+stops_there end before t after d h s =
+    let m : IsMisfit (before ++ t ∷ after) before t = record { after = after; is = refl; begins = begun before d h; stops = stopped before d h t s } in
+    fault_is before d h (before ++ t ∷ after) end t m t.sort refl
+
+module _ (ts : List Lexeme) (d : Draft) (h : run start_draft ts ≡ Some d) where
+  true_false : (b : Bool) → b ≡ true → b ≡ false → ⊥
+  true_false b p q = cc
+
+  pub unfinished : (end : Place) → is_whole d ≡ false → HasFault ts end (Syntax end)
+  unfinished end w =
+      ends (begun ts d h) (λ a s.
+      let r = accepts ts a s in
+      true_false (is_whole d) (ap is_whole (same_draft d r.end (sym h ∙ r.runs)) ∙ r.whole) w)
+
 -- ---- the loop's ends
 module _ (ts : List Lexeme) (i : ℕ) (d : Draft) (h : run start_draft (take i ts) ≡ Some d) where
   pub lexeme_taken : (x : Lexeme) (e : Draft) → i < length ts → step d (get_or ts i x).sort ≡ Some e → run start_draft (take (i + 1) ts) ≡ Some e
@@ -256,11 +272,5 @@ module _ (ts : List Lexeme) (i : ℕ) (d : Draft) (h : run start_draft (take i t
   pub end_accepted : length ts ≤ i → is_whole d ≡ true → Stands ts (closed d)
   end_accepted l w = accepted ts d (all_read l) w
 
-  true_false : (b : Bool) → b ≡ true → b ≡ false → ⊥
-  true_false b p q = cc
-
   pub end_refused : (end : Place) → length ts ≤ i → is_whole d ≡ false → RefusesLexemes ts end (Syntax end)
-  end_refused end l w =
-      inr (ends (begun ts d (all_read l)) (λ a s.
-      let r = accepts ts a s in
-      true_false (is_whole d) (ap is_whole (same_draft d r.end (sym (all_read l) ∙ r.runs)) ∙ r.whole) w))
+  end_refused end l w = inr (unfinished ts d (all_read l) end w)

@@ -1,5 +1,6 @@
 pub mod Agree
 pub mod Complete
+pub mod Existing
 pub mod FirstFault
 pub mod Lexing
 pub mod Nouns

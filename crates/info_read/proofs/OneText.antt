@@ -20,6 +20,7 @@ use Rattle.info_read.specs.Faults.{HasFault}
 use Rattle.info_read.specs.Texts.{HasLexemes, IsInfoText, HasLexemeFault, HasInfoFault}
 use Rattle.info_read.specs.Laws.{AreDistinct, HasDistinctNames, OneAnnotation}
 use Rattle.info_read.proofs.Agree.{one_annot}
+use Rattle.info_read.proofs.Existing.{annotation_or_fault}
 use Rattle.info_read.proofs.FirstFault.{one_fault, not_both}
 
 -- ---- names
@@ -102,6 +103,7 @@ module _ (m : Model) (d : HasDistinctNames m) where
 
 pub one_annotation : OneAnnotation
 one_annotation = record {
+  some = annotation_or_fault;
   one = λ text m a b d h g. one m d text a b h g;
   one_fault = λ text m f g d h k. faults m d text f g (fault m d text f h) (fault m d text g k);
   not_both = λ text m a f d h k. never m d text a f h (fault m d text f k);

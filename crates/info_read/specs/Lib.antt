@@ -4,6 +4,7 @@ pub mod Grammar
 pub mod Faults
 pub mod Texts
 pub mod Laws
+pub mod Examples
 -- What only helps proofs
 pub mod Machine
 pub mod Steps
