@@ -3,3 +3,4 @@ pub mod Places
 pub mod Scaling
 pub mod Complete
 pub mod Lifting
+pub mod Reforms

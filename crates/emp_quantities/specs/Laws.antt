@@ -8,7 +8,7 @@ use Rattle.emp_split.specs.Meaning.{IsSplit, IsBetter}
 use Rattle.emp_conditions.specs.Base.{split_of}
 use Rattle.emp_conditions.specs.Rows.{SolvesRows}
 use Rattle.emp_conditions.specs.Laws.{HasOneRule, IsLeader}
-use Rattle.emp_kkt.specs.System.{IsSystemOf, IsBelowBy}
+use Rattle.emp_quantities.specs.System.{IsSystemOf, IsBelowBy}
 
 -- the row points of the system are those of the conditions
 abbrev pub SystemIsConditions : Type 0

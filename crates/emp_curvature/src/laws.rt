@@ -1,5 +1,5 @@
 //! The laws of curvature, stated for the layers above.
-ghost use Rattle.emp_share.specs.Curvature.{CurvatureIsConvex, ConvexTells};
+ghost use Rattle.emp_curvature.specs.Curvature.{CurvatureIsConvex, ConvexTells};
 
 /// A quadratic is convex in the first coordinates of a list exactly where the block of its second derivatives is positive
 /// semidefinite.

@@ -19,8 +19,8 @@ use Rattle.emp_conditions.specs.Laws.{HasOneRule, IsLeader}
 use Rattle.emp_conditions.proofs.Values.{value_take}
 use Rattle.emp_conditions.proofs.Sound.{rows_are_split}
 use Rattle.emp_conditions.proofs.Lifting.{split_has_rows}
-use Rattle.emp_kkt.specs.System.{rows_of, kinds_of, pairs_of, IsMultipleOf, AreMultiplesOf, IsObjectiveOf, IsSystemOf, IsBelowBy}
-use Rattle.emp_kkt.specs.Laws.{GoalIsShort}
+use Rattle.emp_quantities.specs.System.{rows_of, kinds_of, pairs_of, IsMultipleOf, AreMultiplesOf, IsObjectiveOf, IsSystemOf, IsBelowBy}
+use Rattle.emp_quantities.specs.Laws.{GoalIsShort}
 
 -- ---- a multiple has the signs of its row
 multiple_none : (q : Affine) (r : Row) (p : Point) → IsMultipleOf q r → (affine_at q p ≡ pos 0) ↔ (value_at r p.den p.nums ≡ pos 0)

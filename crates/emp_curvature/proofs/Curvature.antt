@@ -31,7 +31,7 @@ use Rattle.emp_ldl.specs.declared.squares.Curve.TheVariants.{Not, Wide, NoMemory
 use Rattle.emp_ldl.proofs.Lines.{line_more, line_same, line_none}
 use Rattle.emp_ldl.proofs.FracRows.{semidefinite_is_whole}
 use Rattle.emp_ldl.proofs.Says as Says
-use Rattle.emp_share.specs.Curvature.{curvature, IsConvexUpTo, CurveTells}
+use Rattle.emp_curvature.specs.Curvature.{curvature, IsConvexUpTo, CurveTells}
 
 -- ---- a vector on the coordinates of a list
 abbrev spread : List ℕ → List ℤ → List ℤ

@@ -1,5 +1,5 @@
 //! The laws of the row system of a game, stated for the layers above.
-ghost use Rattle.emp_kkt.specs.Laws.{SystemIsConditions, SystemIsSound, SystemLifts, SystemOrders};
+ghost use Rattle.emp_quantities.specs.Laws.{SystemIsConditions, SystemIsSound, SystemLifts, SystemOrders};
 
 /// The row points of the system are those that meet the game's conditions.
 pub fn system_is_conditions()

@@ -1,5 +1,0 @@
-use Rattle.emp_kkt.proofs.Numbering as Numbering
-use Rattle.emp_kkt.proofs.laws.system_is_conditions.Goals as goal
-
-pub returns : goal.returns
-returns c = Numbering.system_is_conditions

@@ -1,0 +1,5 @@
+use Rattle.emp_quantities.proofs.Numbering as Numbering
+use Rattle.emp_quantities.proofs.laws.system_is_sound.Goals as goal
+
+pub returns : goal.returns
+returns c = Numbering.system_is_sound

@@ -1,5 +1,0 @@
-use Rattle.emp_share.proofs.Curvature as Curvature
-use Rattle.emp_share.proofs.laws.curvature_is_convex.Goals as goal
-
-pub returns : goal.returns
-returns c = Curvature.curvature_is_convex
