@@ -106,26 +106,6 @@ progress_end rest den left places start out stop g h =
       is = g.is;
     }
 
--- ---- the point and the whole part
-pub no_fraction : (rest den : ℕ) (start : List ℕ) → rest ≡ 0 → Adds (IsFraction rest den) start start
-no_fraction rest den start e = record {
-  text = [];
-  fact = record { digits = []; are = record { all = All-nil (λ b. digit b ≡ true); ends = refl; value = omega (arith, e) }; is = refl };
-  is = sym (append-nil start);
-}
-
--- a rest above 0 has digits
-some_digits : (rest den : ℕ) (bs : List ℕ) → 0 < rest → AreDigits rest den bs → pointed bs ≡ codes "." ++ bs
-some_digits rest den [] h d = absurd (let e = d.value in omega arith)
-some_digits rest den (b ∷ bs) h d = refl
-
-pub point_fraction : (rest den : ℕ) (start out : List ℕ) → 0 < rest → Adds (AreDigits rest den) (start ++ 46 ∷ []) out → Adds (IsFraction rest den) start out
-point_fraction rest den start out h g = record {
-  text = codes "." ++ g.text;
-  fact = record { digits = g.text; are = g.fact; is = sym (some_digits rest den g.text h g.fact) };
-  is = g.is ∙ append_assoc start (46 ∷ []) g.text;
-}
-
 value_from_whole : (n : ℕ) (bs : List ℕ) → value_from n bs ≡ n * 10 ^ length bs + value_from 0 bs
 value_from_whole n [] = omega arith
 value_from_whole n (b ∷ bs) =

@@ -176,10 +176,3 @@ rises level ts e (a_signed t g us a i s) = rises_more t us (nest a) (flat_sort t
 rises level ts e (a_sum us vs t g a b s i r) = rises_both us (t ∷ vs) (nest a) (nest b) (rises Sum us a s) (rises_more t vs (nest b) (flat_sort t _ i (λ n. refl)) (rises Term vs b r))
 rises level ts e (an_argument us a s) = rises Sum us a s
 rises level ts e (arguments us vs c a b s i r) = rises_both us (c ∷ vs) (nest a) (nest b) (rises Arguments us a s) (rises_more c vs (nest b) (flat_sort c _ i (λ n. refl)) (rises Sum vs b r))
-
--- lexemes that are nowhere too deep stand for an expression that is printed no deeper
-pub depth_within : (text : List ℕ) (d : Draft) (ts : List Lexeme) (e : Written) → Stands Sum ts e → (n : ℕ) (rest : List Lexeme) → n ≤ 64 → too_deep_from n (ts ++ rest) ≡ None → n + depth (meaning text d e) ≤ 64
-depth_within text d ts e s n rest l h =
-    let a = (rises Sum ts e s n rest l h).0 in
-    let b : depth (meaning text d e) ≤ nest e = fits text d Sum ts e s in
-    omega arith

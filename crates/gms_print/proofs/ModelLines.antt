@@ -16,7 +16,7 @@ use Rattle.gms_print.specs.Canonical.EndLine.{no_end, an_end}
 use Rattle.gms_print.specs.Canonical.BoundLines.{no_variables, a_variable}
 use Rattle.gms_print.specs.Decimals.{Adds}
 use Rattle.gms_print.specs.Marks.{PrintsTree}
-use Rattle.gms_print.specs.Lines.{goal_word, before_name, after_names, IsPrintableEquation, IsEquationLine, IsPrintableVariable, IsBoundLines}
+use Rattle.gms_print.specs.Lines.{goal_word, before_name, IsPrintableEquation, IsEquationLine, IsPrintableVariable, IsBoundLines}
 
 -- ---- names
 -- what is still to be written of a line of names, behind so many
@@ -28,10 +28,6 @@ rest_more : (word : List ℕ) (i : ℕ) (n : List ℕ) (ns : List (List ℕ)) �
 rest_more word zero n ns = refl
 rest_more word (suc i) n ns = refl
 
-rest_none : (word : List ℕ) (i : ℕ) → rest_of_line word i [] ≡ after_names i
-rest_none word zero = refl
-rest_none word (suc i) = refl
-
 pub names_more : (word : List ℕ) (names : List (List ℕ)) (i : ℕ) (out whole name : List ℕ) → i < length names → name ≡ get_or names i [] → out ++ rest_of_line word i (drop i names) ≡ whole → (out ++ before_name word i ++ name) ++ rest_of_line word (i + 1) (drop (i + 1) names) ≡ whole
 names_more word names i out whole name h e g =
     let one : i + 1 ≡ suc i = omega arith in
@@ -39,9 +35,6 @@ names_more word names i out whole name h e g =
     let step : rest_of_line word i (drop i names) ≡ before_name word i ++ name ++ rest_of_line word (i + 1) (drop (i + 1) names) =
     ap (rest_of_line word i) left ∙ (rest_more word i name (drop (i + 1) names) ∙ ap (λ k. before_name word i ++ name ++ rest_of_line word k (drop (i + 1) names)) (sym one)) in
     simp append_assoc (simp append_assoc at (ap (λ t. out ++ t) (sym step) ∙ g))
-
-pub names_end : (word : List ℕ) (names : List (List ℕ)) (i : ℕ) (out whole : List ℕ) → length names ≤ i → out ++ rest_of_line word i (drop i names) ≡ whole → out ++ after_names i ≡ whole
-names_end word names i out whole h g = ap (λ t. out ++ t) (sym (ap (rest_of_line word i) (drop_all i names h) ∙ rest_none word i)) ∙ g
 
 -- ---- equations
 pub equation_line : (names : List (List ℕ)) (e : Equation) (start s t out : List ℕ) → Adds (PrintsTree names e.left) (start ++ e.name ++ codes ".. ") s → Adds (PrintsTree names e.right) (s ++ relation_text e.relation) t → out ≡ t ++ codes ";\n" → Adds (IsEquationLine names e) start out
@@ -54,9 +47,6 @@ equation_line names e start s t out l r o = record {
 -- what the equations before the index write goes on to the lines of all
 pub record Onward (names : List (List ℕ)) (es : List Equation) (i : ℕ) (start out : List ℕ) : Type 0 where
   pub onward : (rest : List ℕ) → EquationLines names (drop i es) rest → Adds (EquationLines names es) start (out ++ rest)
-
-pub onward_start : (names : List (List ℕ)) (es : List Equation) (start : List ℕ) → Onward names es 0 start start
-onward_start names es start = record { onward = λ rest h. record { text = rest; fact = h; is = refl } }
 
 pub onward_more : (names : List (List ℕ)) (es : List Equation) (i : ℕ) (e : Equation) (start out new : List ℕ) → i < length es → e ≡ get_or es i e → Onward names es i start out → Adds (IsEquationLine names e) out new → Onward names es (i + 1) start new
 onward_more names es i e start out new h is g line = record {
@@ -86,19 +76,9 @@ end_line name word f start s out n o = record {
 pub open_line : (name word start : List ℕ) → Adds (EndLine name word Open) start start
 open_line name word start = record { text = []; fact = no_end; is = sym (append-nil start) }
 
-pub bounds_of : (v : Variable) (start s out : List ℕ) → Adds (EndLine v.name (codes ".lo = ") v.low) start s → Adds (EndLine v.name (codes ".up = ") v.high) s out → Adds (IsBoundLines v) start out
-bounds_of v start s out l h = record {
-  text = l.text ++ h.text;
-  fact = record { low = l.text; high = h.text; low_line = l.fact; high_line = h.fact; is = refl };
-  is = h.is ∙ (ap (λ x. x ++ h.text) l.is ∙ append_assoc start l.text h.text);
-}
-
 -- what the variables before the index write goes on to the lines of all
 pub record BoundsOnward (vs : List Variable) (i : ℕ) (start out : List ℕ) : Type 0 where
   pub onward : (rest : List ℕ) → BoundLines (drop i vs) rest → Adds (BoundLines vs) start (out ++ rest)
-
-pub bounds_start : (vs : List Variable) (start : List ℕ) → BoundsOnward vs 0 start start
-bounds_start vs start = record { onward = λ rest h. record { text = rest; fact = h; is = refl } }
 
 pub bounds_more : (vs : List Variable) (i : ℕ) (v : Variable) (start out new : List ℕ) → i < length vs → v ≡ get_or vs i v → BoundsOnward vs i start out → Adds (IsBoundLines v) out new → BoundsOnward vs (i + 1) start new
 bounds_more vs i v start out new h is g line = record {
