@@ -3,3 +3,5 @@ pub mod FormLaws
 pub mod Running
 pub mod Formulas
 pub mod Vanishing
+pub mod Steps
+pub mod OneFault

@@ -3,3 +3,4 @@ pub mod Expansion
 pub mod Calls
 pub mod Wide
 pub mod Laws
+pub mod Partial
