@@ -4,6 +4,7 @@ ghost use Rattle.gms_print.specs.Marks.{is_sum_shape, is_product_shape, is_base_
 
 use emp_ast::tree::Operator;
 
+/// What a printed expression is to the signs around it.
 #[derive(Clone, Copy, Debug, PartialEq, Eq)]
 pub enum Shape {
     /// A numeral, a variable, or a power that is printed as a call.
@@ -17,6 +18,7 @@ pub enum Shape {
 }
 
 impl Shape {
+    /// Whether it is a sum, a difference or a negation.
     pub fn is_sum(self) -> bool
         ensures { result ≡ is_sum_shape self }
     {
@@ -28,6 +30,7 @@ impl Shape {
         }
     }
 
+    /// Whether it is a product or a quotient.
     pub fn is_product(self) -> bool
         ensures { result ≡ is_product_shape self }
     {

@@ -31,6 +31,7 @@ pub enum ModelFault {
     Undefined(EquId, Name),
     /// The first variable whose bounds leave it no value.
     BoundsCross(VarId, Name),
+    /// There was no memory; this says nothing of the text.
     NoMemory,
 }
 

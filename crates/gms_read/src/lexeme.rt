@@ -40,12 +40,14 @@ pub enum Domain {
     Discrete,
 }
 
+/// A sign before an operand or between terms.
 #[derive(Clone, Copy, Debug, PartialEq, Eq)]
 pub enum Sign {
     Plus,
     Minus,
 }
 
+/// What joins factors.
 #[derive(Clone, Copy, Debug, PartialEq, Eq)]
 pub enum Scale {
     Times,
@@ -82,7 +84,7 @@ pub enum Sort {
     Close,
 }
 
-/// A token with what it is: the bytes of a text from `from` up to and without `to`, and their place.
+/// A token with what it is: the bytes of a text from `from` up to and without `to`, and the place of the first.
 #[derive(Clone, Copy, Debug)]
 pub struct Lexeme {
     pub sort: Sort,

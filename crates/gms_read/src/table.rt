@@ -31,6 +31,7 @@ impl Model for Table {
 }
 
 impl Table {
+    /// No names.
     pub fn new(alloc: Global) -> Table
         ensures { result ≡ [] }
     {
