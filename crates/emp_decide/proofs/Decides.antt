@@ -60,7 +60,7 @@ module _ (s : RowSystem) (p : List Turn) (d : Dictionary) (t : IsDictionaryOf s 
       by_mark : (j : ℕ) → j < length d.columns → column_label d j ≡ Quantity k → (x : Mark) → mark_at d k ≡ x → FactorFits (sort_on (is_on s p k) (get_or s.kinds (k - 1) Zero)) (across *ℤ cell_at d (aimed_row d a) j)
       by_mark j b e Unasked q = absurd (subst (λ w. MayBeColumn d w) e (l.columns j b) q)
       by_mark j b e Required q = fits_nonneg (sort_on (is_on s p k) (get_or s.kinds (k - 1) Zero)) (across *ℤ cell_at d (aimed_row d a) j) (opposite (toward (aimed_way a)) (cell_at d (aimed_row d a) j) (required_column d t.sound a stop j k b e q))
-      by_mark j b e Fixed q = fits_free (sort_on (is_on s p k) (get_or s.kinds (k - 1) Zero)) (across *ℤ cell_at d (aimed_row d a) j) (on k q)
+      by_mark j b e Fixed q = fits_free (sort_on (is_on s p k) (get_or s.kinds (k - 1) Zero)) (across *ℤ cell_at d (aimed_row d a) j) (on k h q)
 
       by_row : (i : ℕ) → i < length d.rows → row_label d i ≡ Quantity k → (i ≡ aimed_row d a) ⊎ (i ≢ aimed_row d a) → FactorFits (sort_on (is_on s p k) (get_or s.kinds (k - 1) Zero)) (cell fs (k - 1))
       by_row i b e (inl q) =

@@ -37,7 +37,7 @@ IsToBeZero s p k = sort_on (is_on s p k) (slice_index_or s.kinds (k - 1) Zero) �
 
 -- the Fixed quantities are to be 0
 abbrev pub FixedOn : RowSystem → List Turn → Dictionary → Type 0
-FixedOn s p d = (k : ℕ) → mark_at d k ≡ Fixed → IsToBeZero s p k
+FixedOn s p d = (k : ℕ) → 0 < k → mark_at d k ≡ Fixed → IsToBeZero s p k
 
 -- row r has quantity k, which cannot be moved to 0: raised, or lowered where it is to be 0
 pub record IsRefused (s : RowSystem) (p : List Turn) (d : Dictionary) (r k : ℕ) : Type 0 where

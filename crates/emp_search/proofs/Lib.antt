@@ -1,0 +1,5 @@
+pub mod Outcomes
+pub mod Working
+pub mod Solved
+pub mod Showing
+pub mod Rooted
