@@ -4,13 +4,13 @@ use Rattle.std.specs.Prelude.{◌↔◌, Result, Ok, Err, MatchResult, option_ma
 use Rattle.std.proofs.lemmas.List.{drop_more, drop_all, take_more, length-drop, get_or-drop}
 use Rattle.std.proofs.Math.Seq.{take-length}
 use Rattle.emp_list.specs.Case.{same_name}
-use Rattle.gms_read.specs.declared.lexeme.Lexeme.{Lexeme}
-use Rattle.gms_read.specs.Lexemes.{spelling}
-use Rattle.emp_lex.specs.declared.fault.LexFault.{LexFault}
-use Rattle.emp_lex.specs.declared.fault.LexFault.TheVariants.{BadByte, LongName, OpenBlock, Dollar, Number, NoMemory as NoMemoryToLex}
-use Rattle.emp_lex.specs.Tokens.{Refuses}
-use Rattle.gms_read.specs.Texts.{HasLexemes}
-use Rattle.gms_read.proofs.OneText.{one_lexemes, none_with_fault}
+use Rattle.first_read.specs.declared.lexeme.Lexeme.{Lexeme}
+use Rattle.first_read.specs.Lexemes.{spelling}
+use Rattle.first_lex.specs.declared.fault.LexFault.{LexFault}
+use Rattle.first_lex.specs.declared.fault.LexFault.TheVariants.{BadByte, LongName, OpenBlock, Dollar, Number, NoMemory as NoMemoryToLex}
+use Rattle.first_lex.specs.Tokens.{Refuses}
+use Rattle.first_read.specs.Texts.{HasLexemes}
+use Rattle.first_read.proofs.OneText.{one_lexemes, none_with_fault}
 use Rattle.emp_engine.specs.declared.fault.ReadFault.{ReadFault}
 use Rattle.emp_engine.specs.declared.fault.ReadFault.TheVariants.{OtherForm, NoMemory}
 use Rattle.emp_engine.specs.FirstForm.{HasEssential}

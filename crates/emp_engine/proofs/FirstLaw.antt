@@ -13,16 +13,16 @@ use Rattle.emp_algebra.specs.Vector.{cell, dot, scale}
 use Rattle.emp_algebra.proofs.Vectors.{length-scale, cell-scale}
 use Rattle.emp_num.specs.Ratio.{Ratio, ratio, plus, minus, times, SameRatio}
 use Rattle.emp_num.specs.Point.{Point, coordinate}
-use Rattle.emp_ast.specs.declared.tree.EquId.{EquId}
-use Rattle.emp_ast.specs.declared.model.Equation.{Equation}
-use Rattle.emp_ast.specs.declared.model.Variable.{Variable}
-use Rattle.emp_ast.specs.declared.model.Model.{Model}
-use Rattle.emp_ast.specs.declared.annot.Block.{Block}
-use Rattle.emp_ast.specs.declared.annot.Block.TheVariants.{Vi}
-use Rattle.emp_ast.specs.Value.{value, both}
-use Rattle.emp_ast.specs.Meets.{MeetsEquation, MeetsBounds}
-use Rattle.emp_ast.specs.Blocks.{owns, constraints, names_equ}
-use Rattle.emp_ast.specs.Solved.{Fits, IsRival, sides_gap, gap, flow, IsAtLeastZero, IsSolvedVi, IsSolved, has_dual, IsEquilibrium}
+use Rattle.first_ast.specs.declared.tree.EquId.{EquId}
+use Rattle.first_ast.specs.declared.model.Equation.{Equation}
+use Rattle.first_ast.specs.declared.model.Variable.{Variable}
+use Rattle.first_ast.specs.declared.model.Model.{Model}
+use Rattle.first_ast.specs.declared.annot.Block.{Block}
+use Rattle.first_ast.specs.declared.annot.Block.TheVariants.{Vi}
+use Rattle.first_ast.specs.Value.{value, both}
+use Rattle.first_ast.specs.Meets.{MeetsEquation, MeetsBounds}
+use Rattle.first_ast.specs.Blocks.{owns, constraints, names_equ}
+use Rattle.first_ast.specs.Solved.{Fits, IsRival, sides_gap, gap, flow, IsAtLeastZero, IsSolvedVi, IsSolved, has_dual, IsEquilibrium}
 use Rattle.emp_rows.specs.declared.affine.Affine.{Affine}
 use Rattle.emp_rows.specs.Affine.{value_times, AllVanish}
 use Rattle.emp_rows.proofs.Divided.{primitive_zeros}

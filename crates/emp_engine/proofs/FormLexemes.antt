@@ -14,19 +14,19 @@ use Rattle.emp_num.proofs.NumeralTexts.{has_form}
 use Rattle.emp_num.proofs.FracOrder.{one_value}
 use Rattle.std.proofs.Common.{append-nil}
 use Rattle.emp_list.specs.Case.{lower}
-use Rattle.emp_ast.specs.declared.model.Relation.TheVariants.{Equal, AtLeast, AtMost, Nothing}
-use Rattle.emp_lex.specs.declared.token.Token.{Token as LexToken}
-use Rattle.emp_lex.specs.declared.token.TokenKind.{TokenKind}
-use Rattle.emp_lex.specs.declared.token.TokenKind.TheVariants.{Name as NameKind, Numeral as NumeralKind, Text as TextKind, Relation as RelationKind, Symbol as SymbolKind}
-use Rattle.gms_read.specs.declared.lexeme.Word.TheVariants.{Other}
-use Rattle.gms_read.specs.declared.lexeme.Sign.TheVariants.{Plus as PlusSign, Minus as MinusSign}
-use Rattle.gms_read.specs.declared.lexeme.Scale.TheVariants.{Times as TimesScale, Over as OverScale}
-use Rattle.gms_read.specs.declared.lexeme.Sort.{Sort}
-use Rattle.gms_read.specs.declared.lexeme.Sort.TheVariants.{Name, Numeral as NumeralSort, Text, Relation as Related, Domain, Variables, Equations, Model, Solve, Sign as Signed, Scale as Scaled, Raise, Equals, Semicolon as SemicolonSort, Comma as CommaSort, Dot, Dots as DotsSort, Open, Close}
-use Rattle.gms_read.specs.declared.lexeme.Lexeme.{Lexeme}
-use Rattle.gms_read.specs.Lexemes.{of_words, words, keywords, word_sort, IsSort, spelling, AreLexemes}
-use Rattle.gms_read.specs.Texts.{HasLexemes}
-use Rattle.gms_print.proofs.GoodTexts.{of_words_fails, symbols, numeral_gives, each_append}
+use Rattle.first_ast.specs.declared.model.Relation.TheVariants.{Equal, AtLeast, AtMost, Nothing}
+use Rattle.first_lex.specs.declared.token.Token.{Token as LexToken}
+use Rattle.first_lex.specs.declared.token.TokenKind.{TokenKind}
+use Rattle.first_lex.specs.declared.token.TokenKind.TheVariants.{Name as NameKind, Numeral as NumeralKind, Text as TextKind, Relation as RelationKind, Symbol as SymbolKind}
+use Rattle.first_read.specs.declared.lexeme.Word.TheVariants.{Other}
+use Rattle.first_read.specs.declared.lexeme.Sign.TheVariants.{Plus as PlusSign, Minus as MinusSign}
+use Rattle.first_read.specs.declared.lexeme.Scale.TheVariants.{Times as TimesScale, Over as OverScale}
+use Rattle.first_read.specs.declared.lexeme.Sort.{Sort}
+use Rattle.first_read.specs.declared.lexeme.Sort.TheVariants.{Name, Numeral as NumeralSort, Text, Relation as Related, Domain, Variables, Equations, Model, Solve, Sign as Signed, Scale as Scaled, Raise, Equals, Semicolon as SemicolonSort, Comma as CommaSort, Dot, Dots as DotsSort, Open, Close}
+use Rattle.first_read.specs.declared.lexeme.Lexeme.{Lexeme}
+use Rattle.first_read.specs.Lexemes.{of_words, words, keywords, word_sort, IsSort, spelling, AreLexemes}
+use Rattle.first_read.specs.Texts.{HasLexemes}
+use Rattle.first_print.proofs.GoodTexts.{of_words_fails, symbols, numeral_gives, each_append}
 use Rattle.emp_engine.specs.declared.token.Token.{Token}
 use Rattle.emp_engine.specs.declared.token.Token.TheVariants.{Word, Numeral, Sign as Mark}
 use Rattle.emp_engine.specs.declared.token.Sign.{Sign}

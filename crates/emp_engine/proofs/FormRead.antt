@@ -1,18 +1,18 @@
 -- The model that a model text of the first form stands for is that of its outline.
 use Rattle.std.proofs.Common.{◌≡◌, ℕ, List, [], ◌∷◌, Some, Result, Ok, Err, refl, sym, ap, subst, ◌∙◌}
-use Rattle.emp_ast.specs.declared.model.Equation.{Equation}
-use Rattle.emp_ast.specs.declared.model.Model.{Model}
-use Rattle.emp_ast.specs.Names.{SameEquations, SameModel}
-use Rattle.gms_read.specs.declared.draft.Draft.{Draft}
-use Rattle.gms_read.specs.declared.fault.ModelFault.{ModelFault}
-use Rattle.gms_read.specs.declared.lexeme.Lexeme.{Lexeme}
-use Rattle.gms_read.specs.Grammar.{Statement, IsFile}
-use Rattle.gms_read.specs.Texts.{IsModelText}
-use Rattle.gms_read.specs.Rules.{Step, after_all, nothing_yet, whole_meaning, whole_meaning_by}
-use Rattle.gms_read.proofs.OneText.{one_lexemes}
-use Rattle.gms_read.proofs.Agree.{one_items}
-use Rattle.gms_read.proofs.Performed.{same_drafts}
-use Rattle.gms_print.proofs.Effects.{means_model}
+use Rattle.first_ast.specs.declared.model.Equation.{Equation}
+use Rattle.first_ast.specs.declared.model.Model.{Model}
+use Rattle.first_ast.specs.Names.{SameEquations, SameModel}
+use Rattle.first_read.specs.declared.draft.Draft.{Draft}
+use Rattle.first_read.specs.declared.fault.ModelFault.{ModelFault}
+use Rattle.first_read.specs.declared.lexeme.Lexeme.{Lexeme}
+use Rattle.first_read.specs.Grammar.{Statement, IsFile}
+use Rattle.first_read.specs.Texts.{IsModelText}
+use Rattle.first_read.specs.Rules.{Step, after_all, nothing_yet, whole_meaning, whole_meaning_by}
+use Rattle.first_read.proofs.OneText.{one_lexemes}
+use Rattle.first_read.proofs.Agree.{one_items}
+use Rattle.first_read.proofs.Performed.{same_drafts}
+use Rattle.first_print.proofs.Effects.{means_model}
 use Rattle.emp_engine.specs.declared.outline.Outline.{Outline}
 use Rattle.emp_engine.specs.Form.{written_model}
 use Rattle.emp_engine.specs.FirstForm.{IsForm}

@@ -7,20 +7,20 @@ use Rattle.std.proofs.lemmas.List.{length-map}
 use Rattle.std.proofs.lemmas.List.Elements.{All-nil, All-cons, recursion_from_All, All-from_recursion}
 use Rattle.emp_num.specs.Whole.{whole}
 use Rattle.emp_list.specs.Case.{lower}
-use Rattle.emp_ast.specs.declared.model.Relation.TheVariants.{Nothing}
-use Rattle.emp_ast.specs.declared.model.Equation.{Equation}
-use Rattle.emp_ast.specs.Names.{variable_names, equation_names}
-use Rattle.emp_ast.specs.Expression.{nodes_from}
-use Rattle.gms_read.specs.declared.lexeme.Word.{Word as NameWord}
-use Rattle.gms_read.specs.declared.lexeme.Word.TheVariants.{Other}
-use Rattle.gms_read.specs.declared.lexeme.Domain.TheVariants.{Free}
-use Rattle.gms_read.specs.declared.lexeme.Sort.TheVariants.{Name}
-use Rattle.gms_read.specs.declared.lexeme.Lexeme.{Lexeme}
-use Rattle.gms_read.specs.Lexemes.{of_words, words, keywords as model_keywords, word_sort, spelling}
-use Rattle.gms_read.specs.Grammar.{Sum, numeral, Stands, a_numeral, a_primary, a_factor, a_term, bare, AreNames, first, next_behind_comma, no_goal, Statement, variables, equations, definition, model, solve, is_variables, is_equations, is_definition, is_model, is_solve, none, IsFile, last, then}
-use Rattle.gms_print.proofs.Sound.{SoundVariable, all_names}
-use Rattle.gms_print.proofs.GoodTexts.{each_parts}
-use Rattle.gms_print.proofs.Effects.{AreDefinitions, Defines, AreBounds, no_bounds, some_bounds, sets_none, AreStatements, some_variables, some_equations, Fitting}
+use Rattle.first_ast.specs.declared.model.Relation.TheVariants.{Nothing}
+use Rattle.first_ast.specs.declared.model.Equation.{Equation}
+use Rattle.first_ast.specs.Names.{variable_names, equation_names}
+use Rattle.first_ast.specs.Expression.{nodes_from}
+use Rattle.first_read.specs.declared.lexeme.Word.{Word as NameWord}
+use Rattle.first_read.specs.declared.lexeme.Word.TheVariants.{Other}
+use Rattle.first_read.specs.declared.lexeme.Domain.TheVariants.{Free}
+use Rattle.first_read.specs.declared.lexeme.Sort.TheVariants.{Name}
+use Rattle.first_read.specs.declared.lexeme.Lexeme.{Lexeme}
+use Rattle.first_read.specs.Lexemes.{of_words, words, keywords as model_keywords, word_sort, spelling}
+use Rattle.first_read.specs.Grammar.{Sum, numeral, Stands, a_numeral, a_primary, a_factor, a_term, bare, AreNames, first, next_behind_comma, no_goal, Statement, variables, equations, definition, model, solve, is_variables, is_equations, is_definition, is_model, is_solve, none, IsFile, last, then}
+use Rattle.first_print.proofs.Sound.{SoundVariable, all_names}
+use Rattle.first_print.proofs.GoodTexts.{each_parts}
+use Rattle.first_print.proofs.Effects.{AreDefinitions, Defines, AreBounds, no_bounds, some_bounds, sets_none, AreStatements, some_variables, some_equations, Fitting}
 use Rattle.emp_engine.specs.declared.outline.Outline.{Outline}
 use Rattle.emp_engine.specs.declared.outline.Term.{Term}
 use Rattle.emp_engine.specs.declared.token.Sign.TheVariants.{Semicolon, Dots, NoRelation}

@@ -4,31 +4,31 @@ use Rattle.std.specs.List.{AllByRecursion as Each}
 use Rattle.std.proofs.lemmas.List.{length-append}
 use Rattle.emp_num.specs.Whole.{whole}
 use Rattle.emp_list.specs.Case.{lower}
-use Rattle.emp_ast.specs.declared.tree.Operator.{Operator}
-use Rattle.emp_ast.specs.declared.tree.Operator.TheVariants.{Plus as AddOperator, Minus as SubOperator, Times as MulOperator}
-use Rattle.emp_ast.specs.declared.tree.Node.{Node}
-use Rattle.emp_ast.specs.declared.tree.Node.TheVariants.{Number, Var, Neg, Mul}
-use Rattle.emp_ast.specs.Expression.{Expression, number as number_of, variable, negated, joined as joined_with, size, root, nodes_from, join_node as operator_node}
-use Rattle.gms_read.specs.declared.lexeme.Word.{Word as NameWord}
-use Rattle.gms_read.specs.declared.lexeme.Sign.TheVariants.{Plus as PlusSign, Minus as MinusSign}
-use Rattle.gms_read.specs.declared.lexeme.Scale.TheVariants.{Times as TimesScale}
-use Rattle.gms_read.specs.declared.lexeme.Sort.TheVariants.{Name}
-use Rattle.gms_read.specs.declared.lexeme.Lexeme.{Lexeme}
-use Rattle.gms_read.specs.declared.draft.Draft.{Draft}
-use Rattle.gms_read.specs.declared.fault.ModelFault.TheVariants.{Undeclared}
-use Rattle.gms_read.specs.Lexemes.{spelling, word_sort}
-use Rattle.gms_read.specs.Grammar.{Written, numeral, name, signed, joined, Sum, Term as TermLevel, Stands, a_numeral, a_name, a_primary, a_factor, a_product, a_term, a_signed, a_sum}
-use Rattle.gms_read.specs.Rules.{or_zero, fault_where, is_none, meaning, expression_fault}
-use Rattle.gms_print.proofs.OneTree.{nodes_size}
-use Rattle.gms_print.proofs.ExpressionLexemes.{no_faults}
-use Rattle.gms_print.proofs.ExpressionReads.{Knows}
+use Rattle.first_ast.specs.declared.tree.Operator.{Operator}
+use Rattle.first_ast.specs.declared.tree.Operator.TheVariants.{Plus as AddOperator, Minus as SubOperator, Times as MulOperator}
+use Rattle.first_ast.specs.declared.tree.Node.{Node}
+use Rattle.first_ast.specs.declared.tree.Node.TheVariants.{Number, Var, Neg, Mul}
+use Rattle.first_ast.specs.Expression.{Expression, number as number_of, variable, negated, joined as joined_with, size, root, nodes_from, join_node as operator_node}
+use Rattle.first_read.specs.declared.lexeme.Word.{Word as NameWord}
+use Rattle.first_read.specs.declared.lexeme.Sign.TheVariants.{Plus as PlusSign, Minus as MinusSign}
+use Rattle.first_read.specs.declared.lexeme.Scale.TheVariants.{Times as TimesScale}
+use Rattle.first_read.specs.declared.lexeme.Sort.TheVariants.{Name}
+use Rattle.first_read.specs.declared.lexeme.Lexeme.{Lexeme}
+use Rattle.first_read.specs.declared.draft.Draft.{Draft}
+use Rattle.first_read.specs.declared.fault.ModelFault.TheVariants.{Undeclared}
+use Rattle.first_read.specs.Lexemes.{spelling, word_sort}
+use Rattle.first_read.specs.Grammar.{Written, numeral, name, signed, joined, Sum, Term as TermLevel, Stands, a_numeral, a_name, a_primary, a_factor, a_product, a_term, a_signed, a_sum}
+use Rattle.first_read.specs.Rules.{or_zero, fault_where, is_none, meaning, expression_fault}
+use Rattle.first_print.proofs.OneTree.{nodes_size}
+use Rattle.first_print.proofs.ExpressionLexemes.{no_faults}
+use Rattle.first_print.proofs.ExpressionReads.{Knows}
 use Rattle.emp_engine.specs.declared.outline.Term.{Term}
 use Rattle.emp_engine.specs.declared.outline.Product.{Product}
 use Rattle.emp_engine.specs.declared.outline.Product.TheVariants.{Constant, Plain, Multiple}
 use Rattle.emp_engine.specs.Form.{Wanted, symbol, name_at, written_product, sign_between, written_more_terms, written_lead, written_sum, product_variables, sum_variables}
 use Rattle.emp_engine.specs.Meaning.{product_nodes, root_of, join_node, with_term, lead_nodes, sum_nodes}
 use Rattle.emp_engine.proofs.FormLexemes.{Fits, AllFit}
-use Rattle.gms_print.proofs.GoodTexts.{each_parts}
+use Rattle.first_print.proofs.GoodTexts.{each_parts}
 
 -- ---- parts of what is wanted
 pub record Parted (text : List ℕ) (ws vs : List Wanted) (ts : List Lexeme) : Type 0 where

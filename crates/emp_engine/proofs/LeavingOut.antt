@@ -5,25 +5,25 @@ use Rattle.std.specs.List.{AllByRecursion as Each}
 use Rattle.std.proofs.lemmas.Bool.{and_parts, false≢true}
 use Rattle.std.proofs.lemmas.Slice.Eq.{bytes_eq-Decides}
 use Rattle.emp_list.specs.Case.{lower, same_name}
-use Rattle.emp_ast.specs.declared.tree.Place.{Place}
-use Rattle.emp_ast.specs.declared.model.Sense.{Sense}
-use Rattle.gms_read.specs.declared.lexeme.Word.TheVariants.{All, Using, Emp, Minimizing, Maximizing, Infinity, Square, Power, Low, High, Fixed, Level as LevelWord, Marginal, Other}
-use Rattle.gms_read.specs.declared.lexeme.Domain.{Domain}
-use Rattle.gms_read.specs.declared.lexeme.Sort.{Sort}
-use Rattle.gms_read.specs.declared.lexeme.Sort.TheVariants.{Name, Numeral, Text, Relation as Related, Domain as DomainWord, Variables, Equations, Model, Solve, Sign as Signed, Scale as Scaled, Raise, Equals, Semicolon, Comma, Dot, Dots, Open, Close}
-use Rattle.gms_read.specs.declared.lexeme.Lexeme.{Lexeme}
-use Rattle.gms_read.specs.declared.draft.Draft.{Draft}
-use Rattle.gms_read.specs.declared.draft.Limit.{Limit}
-use Rattle.gms_read.specs.declared.table.Named.{Named}
-use Rattle.gms_read.specs.declared.table.Named.TheVariants.{Variable as VariableName, Equation as EquationName, Model as ModelName}
-use Rattle.gms_read.specs.declared.fault.ModelFault.{ModelFault}
-use Rattle.gms_read.specs.declared.fault.ModelFault.TheVariants.{Undeclared, Twice, Attribute, TooLarge}
-use Rattle.gms_read.specs.Lexemes.{spelling}
-use Rattle.gms_read.specs.Grammar.{Written, Level, Stands, a_numeral, a_name, a_call, a_group, a_primary, a_power, a_factor, a_product, a_term, a_signed, a_sum, an_argument, arguments, IsEntry, bare, described, AreNames, first, next, next_behind_comma, IsUnsigned, finite, infinite, IsLimit, no_sign, with_sign, IsGoal, no_goal, least, greatest, Statement, empty, variables, equations, definition, setting, model, solve, IsStatement, is_empty, is_variables, is_domain, is_equations, is_definition, is_setting, is_model, IsSolve, is_solve, AreSemicolons, none, more, IsFile, last, then}
-use Rattle.gms_read.specs.Rules.{most, has_sign, first_low, first_high, with_variable, is_infinite, with_low, with_high, with_definition, or_zero, equation_of, definition_fault, expression_fault, Step, and_then, unless_fault, or_else, entry_of, declared_as, is_none, is_model_entry, is_model as names_model, variable_at, add_variable, add_equation, add_model, declare_by, declare_variable, declare_equation, declare_all, discrete_fault, declare_model, set_variable, set_equation, set_by, with_goal, aim_at, aim, variable_of, after, after_all, nothing_yet}
-use Rattle.gms_print.proofs.Drafts.{none_is}
-use Rattle.gms_print.proofs.GoodTexts.{each_append}
-use Rattle.gms_print.proofs.Tables.{Entries, entry_behind, entry_stays, entry_here}
+use Rattle.first_ast.specs.declared.tree.Place.{Place}
+use Rattle.first_ast.specs.declared.model.Sense.{Sense}
+use Rattle.first_read.specs.declared.lexeme.Word.TheVariants.{All, Using, Emp, Minimizing, Maximizing, Infinity, Square, Power, Low, High, Fixed, Level as LevelWord, Marginal, Other}
+use Rattle.first_read.specs.declared.lexeme.Domain.{Domain}
+use Rattle.first_read.specs.declared.lexeme.Sort.{Sort}
+use Rattle.first_read.specs.declared.lexeme.Sort.TheVariants.{Name, Numeral, Text, Relation as Related, Domain as DomainWord, Variables, Equations, Model, Solve, Sign as Signed, Scale as Scaled, Raise, Equals, Semicolon, Comma, Dot, Dots, Open, Close}
+use Rattle.first_read.specs.declared.lexeme.Lexeme.{Lexeme}
+use Rattle.first_read.specs.declared.draft.Draft.{Draft}
+use Rattle.first_read.specs.declared.draft.Limit.{Limit}
+use Rattle.first_read.specs.declared.table.Named.{Named}
+use Rattle.first_read.specs.declared.table.Named.TheVariants.{Variable as VariableName, Equation as EquationName, Model as ModelName}
+use Rattle.first_read.specs.declared.fault.ModelFault.{ModelFault}
+use Rattle.first_read.specs.declared.fault.ModelFault.TheVariants.{Undeclared, Twice, Attribute, TooLarge}
+use Rattle.first_read.specs.Lexemes.{spelling}
+use Rattle.first_read.specs.Grammar.{Written, Level, Stands, a_numeral, a_name, a_call, a_group, a_primary, a_power, a_factor, a_product, a_term, a_signed, a_sum, an_argument, arguments, IsEntry, bare, described, AreNames, first, next, next_behind_comma, IsUnsigned, finite, infinite, IsLimit, no_sign, with_sign, IsGoal, no_goal, least, greatest, Statement, empty, variables, equations, definition, setting, model, solve, IsStatement, is_empty, is_variables, is_domain, is_equations, is_definition, is_setting, is_model, IsSolve, is_solve, AreSemicolons, none, more, IsFile, last, then}
+use Rattle.first_read.specs.Rules.{most, has_sign, first_low, first_high, with_variable, is_infinite, with_low, with_high, with_definition, or_zero, equation_of, definition_fault, expression_fault, Step, and_then, unless_fault, or_else, entry_of, declared_as, is_none, is_model_entry, is_model as names_model, variable_at, add_variable, add_equation, add_model, declare_by, declare_variable, declare_equation, declare_all, discrete_fault, declare_model, set_variable, set_equation, set_by, with_goal, aim_at, aim, variable_of, after, after_all, nothing_yet}
+use Rattle.first_print.proofs.Drafts.{none_is}
+use Rattle.first_print.proofs.GoodTexts.{each_append}
+use Rattle.first_print.proofs.Tables.{Entries, entry_behind, entry_stays, entry_here}
 use Rattle.emp_engine.specs.Essential.{is_text, is_semicolon, is_dot, is_model_word, is_start_value, without_texts, first_spelling, model_name, is_idle, unless_idle, essential_from, essential}
 
 -- ---- lexemes inside a statement

@@ -1,6 +1,6 @@
 -- The names of an outline and of its model.
 use Rattle.std.proofs.Common.{◌≡◌, ℕ, List, [], ◌∷◌, map, refl, ap}
-use Rattle.emp_ast.specs.declared.model.Variable.{Variable}
+use Rattle.first_ast.specs.declared.model.Variable.{Variable}
 use Rattle.emp_engine.specs.Meaning.{free_variable}
 
 -- the variables of an outline's model have its names

@@ -3,8 +3,8 @@ use Rattle.std.proofs.Common.{◌≡◌, ◌≢◌, ℕ, zero, suc, ◌+◌, ◌
 use Rattle.std.specs.Prelude.{All, AllPairs, codes}
 use Rattle.std.specs.Option.{option_and_then}
 use Rattle.std.proofs.lemmas.List.{append-nil, length-map, take_at, drop_at, take_rest, take_all, get_or-map}
-use Rattle.emp_ast.specs.declared.model.Model.{Model}
-use Rattle.emp_ast.specs.Names.{variable_names, equation_names}
+use Rattle.first_ast.specs.declared.model.Model.{Model}
+use Rattle.first_ast.specs.Names.{variable_names, equation_names}
 use Rattle.emp_engine.specs.declared.outline.Outline.{Outline}
 use Rattle.emp_engine.specs.declared.outline.Pair.{Pair}
 use Rattle.emp_engine.specs.declared.token.Token.{Token}

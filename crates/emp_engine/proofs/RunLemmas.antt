@@ -3,11 +3,11 @@ use Rattle.std.proofs.Common.{◌≡◌, ◌≢◌, ℕ, true, codes, bytes_eq, 
 use Rattle.std.proofs.lemmas.Bool.{false≢true}
 use Rattle.std.proofs.lemmas.List.{append-nil}
 use Rattle.emp_desk.specs.Desk.{Place, loads, output, Contents, Told, KeepsAll, KeepsFiles, Says, SaysPrefix, Rose, NoneFalls}
-use Rattle.emp_ast.specs.declared.model.Model.{Model as GamsModel}
-use Rattle.gms_read.specs.declared.fault.ModelFault.{ModelFault}
-use Rattle.gms_read.specs.declared.fault.ModelFault.TheVariants.{NoMemory as WantOfMemory}
-use Rattle.gms_read.specs.Texts.{IsModelText, RefusesModel}
-use Rattle.gms_print.specs.Canonical.{IsCanonical}
+use Rattle.first_ast.specs.declared.model.Model.{Model as GamsModel}
+use Rattle.first_read.specs.declared.fault.ModelFault.{ModelFault}
+use Rattle.first_read.specs.declared.fault.ModelFault.TheVariants.{NoMemory as WantOfMemory}
+use Rattle.first_read.specs.Texts.{IsModelText, RefusesModel}
+use Rattle.first_print.specs.Canonical.{IsCanonical}
 use Rattle.emp_engine.specs.declared.outline.Pair.{Pair}
 use Rattle.emp_engine.specs.declared.words.Command.{Command}
 use Rattle.emp_engine.specs.declared.words.Command.TheVariants.{Solve, Print}

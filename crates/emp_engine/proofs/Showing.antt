@@ -1,11 +1,11 @@
 -- From the readers and the printer to the answer over two texts.
 use Rattle.std.proofs.Common.{◌≡◌, ℕ, inl, ◌++◌, List, Result, Ok, Err, sym, ap, subst, ◌∙◌}
 use Rattle.std.specs.Result.{MatchResult}
-use Rattle.emp_ast.specs.declared.model.Model.{Model}
-use Rattle.gms_read.specs.declared.fault.ModelFault.{ModelFault}
-use Rattle.gms_read.specs.declared.fault.ModelFault.TheVariants.{Lex, Syntax, Undeclared, Twice, Discrete, Attribute, Function, TooLarge as TooLargeModel, Undefined, BoundsCross, NoMemory as WantOfMemory}
-use Rattle.gms_read.specs.Texts.{IsModelText, RefusesModel}
-use Rattle.gms_print.specs.Canonical.{IsCanonical}
+use Rattle.first_ast.specs.declared.model.Model.{Model}
+use Rattle.first_read.specs.declared.fault.ModelFault.{ModelFault}
+use Rattle.first_read.specs.declared.fault.ModelFault.TheVariants.{Lex, Syntax, Undeclared, Twice, Discrete, Attribute, Function, TooLarge as TooLargeModel, Undefined, BoundsCross, NoMemory as WantOfMemory}
+use Rattle.first_read.specs.Texts.{IsModelText, RefusesModel}
+use Rattle.first_print.specs.Canonical.{IsCanonical}
 use Rattle.emp_engine.specs.declared.outline.Pair.{Pair}
 use Rattle.emp_engine.specs.declared.words.Command.{Command}
 use Rattle.emp_engine.specs.declared.words.Command.TheVariants.{Solve, Print}

@@ -12,9 +12,9 @@ use Rattle.emp_algebra.proofs.Vectors.{dot-set_cell}
 use Rattle.emp_num.specs.Ratio.{Ratio, ratio, negated, plus, minus, times}
 use Rattle.emp_num.specs.Point.{Point, coordinate}
 use Rattle.emp_num.specs.Whole.{whole, whole_by}
-use Rattle.emp_ast.specs.declared.tree.Node.{Node}
-use Rattle.emp_ast.specs.declared.tree.Node.TheVariants.{Number, Var, Neg, Mul}
-use Rattle.emp_ast.specs.Value.{found, both, node_value, values}
+use Rattle.first_ast.specs.declared.tree.Node.{Node}
+use Rattle.first_ast.specs.declared.tree.Node.TheVariants.{Number, Var, Neg, Mul}
+use Rattle.first_ast.specs.Value.{found, both, node_value, values}
 use Rattle.emp_engine.specs.declared.outline.Term.{Term}
 use Rattle.emp_engine.specs.declared.outline.Product.{Product}
 use Rattle.emp_engine.specs.declared.outline.Product.TheVariants.{Constant, Plain, Multiple}

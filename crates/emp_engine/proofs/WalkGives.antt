@@ -3,8 +3,8 @@ use Rattle.std.proofs.Common.{◌≡◌, ℕ, ◌+◌, ◌<◌, ℤ, pos, List, 
 use Rattle.std.proofs.lemmas.List.{get_or-map, length-map, length-replicate}
 use Rattle.emp_num.specs.declared.frac.Frac.{Frac}
 use Rattle.emp_num.proofs.Commons.{common_point, stands_for_common}
-use Rattle.emp_ast.specs.declared.model.Model.{Model}
-use Rattle.gms_read.specs.Texts.{IsModelText}
+use Rattle.first_ast.specs.declared.model.Model.{Model}
+use Rattle.first_read.specs.Texts.{IsModelText}
 use Rattle.emp_rows.specs.declared.affine.Affine.{Affine}
 use Rattle.emp_rows.proofs.Exchange.{length-quotients}
 use Rattle.emp_rows.specs.Walk.{Dictionary, solved, refuted, walk_of, ArePoint}

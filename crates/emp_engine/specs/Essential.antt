@@ -1,15 +1,15 @@
 -- What the first form asks of a model text: its lexemes but for texts, empty statements and settings that are ignored.
 use Rattle.std.specs.Prelude.{ℕ, Bool, true, false, cond, not, ◌&&◌, ◌||◌, List, [], ◌∷◌, ◌++◌, filter, Option, Some, None, option_map, option_and_then}
 use Rattle.emp_list.specs.Case.{same_name}
-use Rattle.emp_ast.specs.declared.model.Relation.{Relation}
-use Rattle.emp_ast.specs.declared.model.Relation.TheVariants.{Equal, AtLeast, AtMost, Nothing}
-use Rattle.gms_read.specs.declared.lexeme.Word.TheVariants.{Level, Marginal}
-use Rattle.gms_read.specs.declared.lexeme.Sign.TheVariants.{Plus as PlusSign, Minus as MinusSign}
-use Rattle.gms_read.specs.declared.lexeme.Scale.TheVariants.{Times as TimesSign, Over as OverSign}
-use Rattle.gms_read.specs.declared.lexeme.Sort.{Sort}
-use Rattle.gms_read.specs.declared.lexeme.Sort.TheVariants.{Name, Numeral as NumeralSort, Text, Relation as RelationSort, Domain, Variables, Equations, Model, Solve, Sign as SignSort, Scale, Semicolon as SemicolonSort, Comma as CommaSort, Dot, Dots as DotsSort}
-use Rattle.gms_read.specs.declared.lexeme.Lexeme.{Lexeme}
-use Rattle.gms_read.specs.Lexemes.{spelling}
+use Rattle.first_ast.specs.declared.model.Relation.{Relation}
+use Rattle.first_ast.specs.declared.model.Relation.TheVariants.{Equal, AtLeast, AtMost, Nothing}
+use Rattle.first_read.specs.declared.lexeme.Word.TheVariants.{Level, Marginal}
+use Rattle.first_read.specs.declared.lexeme.Sign.TheVariants.{Plus as PlusSign, Minus as MinusSign}
+use Rattle.first_read.specs.declared.lexeme.Scale.TheVariants.{Times as TimesSign, Over as OverSign}
+use Rattle.first_read.specs.declared.lexeme.Sort.{Sort}
+use Rattle.first_read.specs.declared.lexeme.Sort.TheVariants.{Name, Numeral as NumeralSort, Text, Relation as RelationSort, Domain, Variables, Equations, Model, Solve, Sign as SignSort, Scale, Semicolon as SemicolonSort, Comma as CommaSort, Dot, Dots as DotsSort}
+use Rattle.first_read.specs.declared.lexeme.Lexeme.{Lexeme}
+use Rattle.first_read.specs.Lexemes.{spelling}
 use Rattle.emp_engine.specs.declared.token.Token.{Token}
 use Rattle.emp_engine.specs.declared.token.Token.TheVariants.{Word, Numeral, Sign as Mark}
 use Rattle.emp_engine.specs.declared.token.Sign.{Sign}

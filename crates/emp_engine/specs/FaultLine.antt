@@ -4,8 +4,8 @@ use Rattle.emp_engine.specs.declared.fault_line.Input.{Input}
 use Rattle.emp_engine.specs.declared.fault_line.Input.TheVariants.{Model, Annotation}
 use Rattle.emp_engine.specs.declared.fault_line.Fault.{Fault}
 use Rattle.emp_engine.specs.declared.fault_line.Fault.TheVariants.{NotYet, Unread, TooLong, BadModel, NoMemory, Wide}
-use Rattle.gms_read.specs.declared.fault.ModelFault.{ModelFault}
-use Rattle.gms_read.specs.declared.fault.ModelFault.TheVariants.{NoMemory as ModelNoMemory}
+use Rattle.first_read.specs.declared.fault.ModelFault.{ModelFault}
+use Rattle.first_read.specs.declared.fault.ModelFault.TheVariants.{NoMemory as ModelNoMemory}
 use Rattle.emp_engine.specs.Report.{not_yet_line, unread_line, too_long_line, model_line, no_memory_line, wide_line}
 
 -- a fault of the model text, or want of memory

@@ -1,10 +1,10 @@
 -- The pairs of texts that are solved: of the first form, the model text up to comments, dollar lines, texts, settings that
 -- are ignored and empty statements.
 use Rattle.std.specs.Prelude.{◌≡◌, ◌≢◌, ◌<◌, ℕ, List, ◌++◌, All, AllPairs, length, Some}
-use Rattle.emp_ast.specs.declared.model.Model.{Model}
-use Rattle.emp_ast.specs.Names.{variable_names, equation_names}
-use Rattle.gms_read.specs.declared.lexeme.Lexeme.{Lexeme}
-use Rattle.gms_read.specs.Texts.{HasLexemes}
+use Rattle.first_ast.specs.declared.model.Model.{Model}
+use Rattle.first_ast.specs.Names.{variable_names, equation_names}
+use Rattle.first_read.specs.declared.lexeme.Lexeme.{Lexeme}
+use Rattle.first_read.specs.Texts.{HasLexemes}
 use Rattle.emp_engine.specs.declared.token.Token.{Token}
 use Rattle.emp_engine.specs.declared.outline.Outline.{Outline}
 use Rattle.emp_engine.specs.declared.outline.Pair.{Pair}

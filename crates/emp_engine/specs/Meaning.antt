@@ -2,18 +2,18 @@
 use Rattle.std.specs.Prelude.{ℕ, ◌+◌, ◌-◌, ℤ, pos, neg_ℤ, ◌+ℤ◌, Bool, true, false, List, [], ◌∷◌, ◌++◌, map, fold, length, replicate, slice_set, slice_index_or, None}
 use Rattle.emp_algebra.specs.Vector.{cell}
 use Rattle.emp_num.specs.Whole.{whole}
-use Rattle.emp_ast.specs.declared.tree.VarId.{VarId}
-use Rattle.emp_ast.specs.declared.tree.EquId.{EquId}
-use Rattle.emp_ast.specs.declared.tree.Node.{Node}
-use Rattle.emp_ast.specs.declared.tree.Node.TheVariants.{Number, Var, Neg, Add, Sub, Mul}
-use Rattle.emp_ast.specs.declared.tree.Tree.{Tree}
-use Rattle.emp_ast.specs.declared.model.Relation.TheVariants.{Nothing}
-use Rattle.emp_ast.specs.declared.model.Equation.{Equation}
-use Rattle.emp_ast.specs.declared.model.End.TheVariants.{Open}
-use Rattle.emp_ast.specs.declared.model.Variable.{Variable}
-use Rattle.emp_ast.specs.declared.model.Model.{Model}
-use Rattle.emp_ast.specs.declared.annot.Block.TheVariants.{Vi}
-use Rattle.emp_ast.specs.declared.annot.Annot.{Annot}
+use Rattle.first_ast.specs.declared.tree.VarId.{VarId}
+use Rattle.first_ast.specs.declared.tree.EquId.{EquId}
+use Rattle.first_ast.specs.declared.tree.Node.{Node}
+use Rattle.first_ast.specs.declared.tree.Node.TheVariants.{Number, Var, Neg, Add, Sub, Mul}
+use Rattle.first_ast.specs.declared.tree.Tree.{Tree}
+use Rattle.first_ast.specs.declared.model.Relation.TheVariants.{Nothing}
+use Rattle.first_ast.specs.declared.model.Equation.{Equation}
+use Rattle.first_ast.specs.declared.model.End.TheVariants.{Open}
+use Rattle.first_ast.specs.declared.model.Variable.{Variable}
+use Rattle.first_ast.specs.declared.model.Model.{Model}
+use Rattle.first_ast.specs.declared.annot.Block.TheVariants.{Vi}
+use Rattle.first_ast.specs.declared.annot.Annot.{Annot}
 use Rattle.emp_rows.specs.declared.affine.Affine.{Affine}
 use Rattle.emp_rows.specs.Affine.{primitive_of}
 use Rattle.emp_engine.specs.declared.outline.Outline.{Outline}

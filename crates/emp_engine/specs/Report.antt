@@ -3,11 +3,11 @@ use Rattle.std.specs.Prelude.{ℕ, ℤ, List, [], ◌∷◌, ◌++◌, take, cod
 use Rattle.std.specs.Fmt.{signed_decimal}
 use Rattle.emp_num.specs.FracText.{fraction_text}
 use Rattle.emp_num.specs.declared.frac.Frac.{Frac}
-use Rattle.emp_ast.specs.declared.tree.Place.{Place}
-use Rattle.emp_lex.specs.declared.fault.LexFault.{LexFault}
-use Rattle.emp_lex.specs.declared.fault.LexFault.TheVariants.{BadByte, LongName, OpenBlock, Dollar, Number, NoMemory as LexNoMemory}
-use Rattle.gms_read.specs.declared.fault.ModelFault.{ModelFault}
-use Rattle.gms_read.specs.declared.fault.ModelFault.TheVariants.{Lex, Syntax, Undeclared, Twice, Discrete, Attribute, Function, TooLarge, Undefined, BoundsCross, NoMemory}
+use Rattle.first_ast.specs.declared.tree.Place.{Place}
+use Rattle.first_lex.specs.declared.fault.LexFault.{LexFault}
+use Rattle.first_lex.specs.declared.fault.LexFault.TheVariants.{BadByte, LongName, OpenBlock, Dollar, Number, NoMemory as LexNoMemory}
+use Rattle.first_read.specs.declared.fault.ModelFault.{ModelFault}
+use Rattle.first_read.specs.declared.fault.ModelFault.TheVariants.{Lex, Syntax, Undeclared, Twice, Discrete, Attribute, Function, TooLarge, Undefined, BoundsCross, NoMemory}
 
 -- `NAME = F` for each variable
 abbrev pub point_lines : List (List ℕ) → List Frac → List ℕ

@@ -2,14 +2,14 @@
 use Rattle.std.specs.Prelude.{◌≡◌, ◌≢◌, ℕ, ◌+◌, ◌<◌, ◌⊎◌, ℤ, List, [], ◌∷◌, ◌++◌, map, length, codes, slice_index_or}
 use Rattle.emp_num.specs.declared.frac.Frac.{Frac}
 use Rattle.emp_num.specs.Point.{Point, StandsFor}
-use Rattle.emp_ast.specs.declared.model.Model.{Model}
-use Rattle.emp_ast.specs.declared.annot.Annot.{Annot}
-use Rattle.emp_ast.specs.Names.{variable_names, equation_names, SameModel}
-use Rattle.emp_ast.specs.Solved.{IsEquilibrium}
-use Rattle.gms_read.specs.declared.fault.ModelFault.{ModelFault}
-use Rattle.gms_read.specs.declared.fault.ModelFault.TheVariants.{NoMemory}
-use Rattle.gms_read.specs.Texts.{IsModelText, RefusesModel}
-use Rattle.gms_print.specs.Canonical.{IsCanonical}
+use Rattle.first_ast.specs.declared.model.Model.{Model}
+use Rattle.first_ast.specs.declared.annot.Annot.{Annot}
+use Rattle.first_ast.specs.Names.{variable_names, equation_names, SameModel}
+use Rattle.first_ast.specs.Solved.{IsEquilibrium}
+use Rattle.first_read.specs.declared.fault.ModelFault.{ModelFault}
+use Rattle.first_read.specs.declared.fault.ModelFault.TheVariants.{NoMemory}
+use Rattle.first_read.specs.Texts.{IsModelText, RefusesModel}
+use Rattle.first_print.specs.Canonical.{IsCanonical}
 use Rattle.emp_rows.specs.Walk.{Dictionary, solved, refuted, too_wide, walk_of, ArePoint}
 use Rattle.emp_desk.specs.Desk.{Place, loads, output, Contents, Says, SaysPrefix, Rose}
 use Rattle.emp_engine.specs.declared.words.Command.{Command}

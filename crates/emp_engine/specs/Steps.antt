@@ -3,7 +3,7 @@ use Rattle.std.specs.Prelude.{◌≡◌, ℕ, ◌+◌, ◌⊎◌, ℤ, List, len
 use Rattle.emp_num.specs.declared.frac.Frac.{Frac}
 use Rattle.emp_rows.specs.Walk.{Dictionary, solved, refuted, too_wide, walk_of, ArePoint}
 use Rattle.emp_desk.specs.Desk.{Place, loads, output, Contents, Told, KeepsFiles, Says, SaysPrefix, Rose}
-use Rattle.emp_ast.specs.declared.model.Model.{Model as GamsModel}
+use Rattle.first_ast.specs.declared.model.Model.{Model as GamsModel}
 use Rattle.emp_engine.specs.declared.fault_line.Input.{Input}
 use Rattle.emp_engine.specs.declared.fault_line.Input.TheVariants.{Model, Annotation}
 use Rattle.emp_engine.specs.declared.fault_line.Fault.{Fault}

@@ -2,7 +2,7 @@
 ghost use Rattle.std.specs.Prelude.{◌<◌, length, MatchResult};
 ghost use Rattle.emp_engine.specs.Form.{IsSound};
 ghost use Rattle.emp_engine.specs.Steps.{IsAnswer, IsFaultOf, IsDecided, IsUndecided, IsShown, IsUnshown, IsAnswerOf, IsWalkFault};
-ghost use Rattle.gms_print.specs.ReadsBack.{HasText};
+ghost use Rattle.first_print.specs.ReadsBack.{HasText};
 
 use crate::fault::ReadFault;
 use crate::fault_line::Fault;
@@ -12,10 +12,10 @@ use crate::reader::read;
 use crate::report;
 use crate::rows::rows;
 use crate::words::Command;
-use emp_ast::model::Model;
 use emp_rows::walk::{Verdict, walk};
-use gms_print::print::print_model;
-use gms_read::read::read_model;
+use first_ast::model::Model;
+use first_print::print::print_model;
+use first_read::read::read_model;
 use std::alloc::Global;
 
 /// A text to say and the status that goes with it.

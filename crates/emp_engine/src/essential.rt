@@ -3,7 +3,7 @@
 //! Comments and dollar lines have no lexemes.
 ghost use Rattle.std.specs.Prelude.{◌≡◌, ◌↔◌, ◌<◌, ◌&&◌, ◌||◌, ◌++◌, List, Some, None, length, IfOk, OnOk, MatchResult};
 ghost use Rattle.emp_list.specs.Case.{same_name};
-ghost use Rattle.gms_read.specs.Lexemes.{spelling};
+ghost use Rattle.first_read.specs.Lexemes.{spelling};
 ghost use Rattle.emp_engine.specs.Essential.{is_text, is_semicolon, is_dot, is_model_word, is_start_value, without_texts, first_spelling, model_name, is_idle, unless_idle, essential, numeral_token, relation_token, sign_of, token_of, tokens_of};
 ghost use Rattle.emp_engine.specs.FirstForm.{HasEssential};
 ghost use Rattle.emp_engine.specs.declared.token.Token.{Token};
@@ -11,12 +11,12 @@ ghost use Rattle.emp_engine.specs.declared.token.Token.{Token};
 use crate::fault::ReadFault;
 use crate::lexer::value_of;
 use crate::token::{Sign, Token};
-use emp_ast::model::Relation;
-use emp_lex::fault::LexFault;
-use emp_lex::lexer::tokens;
 use emp_list::name::Name;
-use gms_read::lexeme::{Lexeme, Scale, Sign as SignSort, Sort, Word};
-use gms_read::lexemes::lexemes;
+use first_ast::model::Relation;
+use first_lex::fault::LexFault;
+use first_lex::lexer::tokens;
+use first_read::lexeme::{Lexeme, Scale, Sign as SignSort, Sort, Word};
+use first_read::lexemes::lexemes;
 use std::alloc::{AllocError, Global};
 
 // ---- what is left out

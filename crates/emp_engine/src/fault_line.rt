@@ -4,9 +4,9 @@ ghost use Rattle.emp_engine.specs.FaultLine.{file_number, line_of, status_of};
 ghost use Rattle.emp_engine.specs.Report.{model_line_at, model_line_of, lex_line, model_line};
 
 use arrayvec::ArrayVec;
-use emp_ast::tree::Place;
-use emp_lex::fault::LexFault;
-use gms_read::fault::ModelFault;
+use first_ast::tree::Place;
+use first_lex::fault::LexFault;
+use first_read::fault::ModelFault;
 use itoa::Buffer;
 use std::alloc::AllocError;
 
@@ -58,7 +58,7 @@ impl From<AllocError> for Fault {
 }
 
 impl From<ModelFault> for Fault {
-    ghost use Rattle.gms_read.specs.declared.fault.ModelFault.{ModelFault};
+    ghost use Rattle.first_read.specs.declared.fault.ModelFault.{ModelFault};
     ghost use Rattle.emp_engine.specs.FaultLine.{model_fault};
 
     ghost from_gives = { λ e f. f ≡ model_fault e };

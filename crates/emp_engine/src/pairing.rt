@@ -1,6 +1,6 @@
 //! Annotations of one variational inequality that pairs all equations and variables of a model.
 ghost use Rattle.std.specs.Prelude.{◌≡◌, ◌<◌, ◌≤◌, ◌++◌, List, All, length, IfOk, OnOk, MatchResult};
-ghost use Rattle.emp_ast.specs.Names.{variable_names, equation_names};
+ghost use Rattle.first_ast.specs.Names.{variable_names, equation_names};
 ghost use Rattle.emp_engine.specs.declared.outline.Pair.{Pair};
 ghost use Rattle.emp_engine.specs.Parsing.{same_name};
 ghost use Rattle.emp_engine.specs.Soundness.{is_fresh, names_fit};
@@ -12,9 +12,9 @@ use crate::lexer::tokens;
 use crate::outline::Pair;
 use crate::parser::sound::{are_pairs, is_no_keyword};
 use crate::parser::{info, is_same_name};
-use emp_ast::model::Model;
 use emp_list::name::Name;
 use emp_list::seq::Seq;
+use first_ast::model::Model;
 use std::alloc::{AllocError, Global};
 
 /// The names of the variables and then of the equations.

@@ -1,5 +1,5 @@
 use Rattle.std.proofs.Common.{refl}
-use Rattle.gms_print.proofs.Soundness.{sound_model}
+use Rattle.first_print.proofs.Soundness.{sound_model}
 use Rattle.emp_engine.proofs.Showing.{shown_text}
 use Rattle.emp_engine.proofs.decide.show.Goals as goal
 

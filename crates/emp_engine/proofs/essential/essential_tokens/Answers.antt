@@ -1,5 +1,5 @@
 use Rattle.std.proofs.Common.{ap, subst, ◌∙◌}
-use Rattle.gms_read.specs.Lexemes.{AreLexemes}
+use Rattle.first_read.specs.Lexemes.{AreLexemes}
 use Rattle.emp_engine.specs.Essential.{without_texts, essential}
 use Rattle.emp_engine.proofs.EssentialLemmas.{refused, gives_essential}
 use Rattle.emp_engine.proofs.essential.essential_tokens.Goals as goal

@@ -1,5 +1,5 @@
 use Rattle.std.proofs.Common.{◌≡◌, List, Some, None, sym, ap, ◌∙◌, length, rules, arith}
-use Rattle.emp_ast.specs.Names.{variable_names, equation_names}
+use Rattle.first_ast.specs.Names.{variable_names, equation_names}
 use Rattle.emp_engine.specs.declared.fault.ReadFault.TheVariants.{OtherForm}
 use Rattle.emp_engine.specs.declared.outline.Pair.{Pair}
 use Rattle.emp_engine.specs.FirstForm.{IsPairing, paired_names}

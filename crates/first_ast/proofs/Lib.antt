@@ -1,0 +1,5 @@
+pub mod ExampleLaws
+pub mod ExampleAgents
+pub mod ExampleSharing
+pub mod ExampleSigns
+pub mod Finding

@@ -1,0 +1,121 @@
+-- Each model that some text stands for is sound.
+use Rattle.std.proofs.Common.{◌≡◌, ℕ, ◌+◌, ◌≤◌, Bool, true, false, cond, List, [], ◌∷◌, ◌++◌, map, length, All, Option, Some, None, Result, Ok, Err, refl, sym, ap, subst, ◌∙◌, arith}
+use Rattle.std.specs.List.{AllByRecursion as Each}
+use Rattle.std.proofs.lemmas.Bool.{true≢false}
+use Rattle.std.proofs.lemmas.List.Elements.{All-from_recursion}
+use Rattle.first_ast.specs.declared.model.Equation.{Equation}
+use Rattle.first_ast.specs.declared.model.Variable.{Variable}
+use Rattle.first_ast.specs.declared.model.Model.{Model}
+use Rattle.first_read.specs.declared.lexeme.Lexeme.{Lexeme}
+use Rattle.first_read.specs.declared.draft.Draft.{Draft}
+use Rattle.first_read.specs.declared.draft.DraftVariable.{DraftVariable}
+use Rattle.first_read.specs.declared.draft.Limit.{Limit}
+use Rattle.first_read.specs.declared.draft.Limit.TheVariants.{Below, At, Above}
+use Rattle.first_read.specs.declared.fault.ModelFault.{ModelFault}
+use Rattle.first_read.specs.Nesting.{too_deep_from}
+use Rattle.first_read.specs.Grammar.{Statement, solve, IsSolve, is_solve, IsFile, last, then}
+use Rattle.first_read.specs.Rules.{Step, and_then, or_else, is_none, after, after_all, nothing_yet, undefined_from, crosses, crossing_from, end_of, finished_variables, or_empty, finished, finish_by, finish, whole_meaning_by}
+use Rattle.first_print.specs.ReadsBack.{HasText}
+use Rattle.first_print.proofs.Sound.{IsFree, SoundEquation, SoundEnd as SoundModelEnd, low_limit, high_limit, SoundVariable, SoundGoal, all_names, Sound}
+use Rattle.first_print.proofs.GoodTexts.{each_parts, IsGood, good_lexemes, SoundLimit, statement_rises, good_statement}
+use Rattle.first_print.proofs.Drafts.{names_of, equation_names_of, model_names, draft_names, Apart, apart_pairs, SoundLimits, SoundEquations, IsSound, SoundStep, SoundEnd, sound_start, after_sound, solve_sound}
+
+-- ---- statements of a file
+then_end : (r : Step) (following : Draft → Step) → SoundStep r → ((d : Draft) → IsSound d → SoundEnd (following d)) → SoundEnd (and_then r following)
+then_end (Ok d) following h k = k d h
+then_end (Err f) following h k = tt
+
+last_end : (text : List ℕ) (d : Draft) (ts : List Lexeme) (s : Statement) → IsSolve ts s → IsSound d → SoundEnd (after_all text d (s ∷ []))
+last_end text d ts s (is_solve k t u e z us goal i j l m n o) h = same (after text d (solve t goal)) (solve_sound text d t goal h)
+  where
+    same : (r : Step) → SoundEnd r → SoundEnd (and_then r (λ e. Ok e))
+    same (Ok e) h = h
+    same (Err f) h = tt
+
+file_sound : (text : List ℕ) (ts : List Lexeme) (ss : List Statement) → IsFile ts ss → Each (IsGood text) ts → too_deep_from 0 ts ≡ None → (d : Draft) → IsSound d → SoundEnd (after_all text d ss)
+file_sound text ts ss (last us zs s i z) g l d h = last_end text d us s i h
+file_sound text ts ss (then us vs s more i f) g l d h =
+    let p = each_parts (IsGood text) us vs g in
+    let r = statement_rises us s i 0 vs (omega arith) l in
+    then_end (after text d s) (λ e. after_all text e more)
+    (after_sound text d s h (good_statement text us s i p.0 (omega (arith, r.0))))
+    (λ e k. file_sound text vs more f p.1 r.1 e k)
+
+-- ---- the end of a text
+some_none : {P : Type 0} (f : ModelFault) → ◌≡◌ {A = Option ModelFault} (Some f) None → P
+some_none f e = absurd (cc)
+
+all_defined : (count k : ℕ) (es : List Equation) (bs : List Bool) → SoundEquations count es bs → undefined_from k es bs ≡ None → Each (SoundEquation count) es
+all_defined count k [] bs h n = tt
+all_defined count k (e ∷ es) [] h n = absurd h
+all_defined count k (e ∷ es) (true ∷ bs) h n = (h.0 refl, all_defined count (k + 1) es bs h.1 n)
+all_defined count k (e ∷ es) (false ∷ bs) h n = some_none _ n
+
+sound_end : (l : Limit) → SoundLimit l → SoundModelEnd (end_of l)
+sound_end Below h = tt
+sound_end (At f) h = h
+sound_end Above h = tt
+
+still_ordered : (low high : Limit) → crosses low high ≡ false → crosses (low_limit (end_of low)) (high_limit (end_of high)) ≡ false
+still_ordered Above high h = absurd (true≢false h)
+still_ordered Below Below h = absurd (true≢false h)
+still_ordered Below (At g) h = refl
+still_ordered Below Above h = refl
+still_ordered (At f) Below h = absurd (true≢false h)
+still_ordered (At f) (At g) h = h
+still_ordered (At f) Above h = refl
+
+no_fault : (b : Bool) (f : ModelFault) (o : Option ModelFault) → cond b (Some f) o ≡ None → (b ≡ false) × (o ≡ None)
+no_fault true f o h = some_none f h
+no_fault false f o h = (refl, h)
+
+variables_sound : (k : ℕ) (vs : List DraftVariable) → Each SoundLimits vs → crossing_from k vs ≡ None → Each SoundVariable (finished_variables vs)
+variables_sound k [] h n = tt
+variables_sound k (v ∷ vs) h n =
+    let p = no_fault (crosses v.low v.high) _ (crossing_from (k + 1) vs) n in
+    (record { low = sound_end v.low h.0.0; high = sound_end v.high h.0.1; ordered = still_ordered v.low v.high p.0 }, variables_sound (k + 1) vs h.1 p.1)
+
+finished_names : (vs : List DraftVariable) → map (λ (v : Variable). v.name) (finished_variables vs) ≡ names_of vs
+finished_names [] = refl
+finished_names (v ∷ vs) = ap (λ ns. v.name ∷ ns) (finished_names vs)
+
+finished_length : (vs : List DraftVariable) → length (finished_variables vs) ≡ length vs
+finished_length [] = refl
+finished_length (v ∷ vs) = omega (arith, finished_length vs)
+
+model_name : (o : Option (List ℕ)) → is_none o ≡ false → model_names o ≡ or_empty o ∷ []
+model_name None h = absurd (true≢false h)
+model_name (Some n) h = refl
+
+same_names : (d : Draft) → is_none d.model ≡ false → draft_names d ≡ all_names (finished d)
+same_names d h = ap (λ ms. names_of d.variables ++ equation_names_of d.equations ++ ms) (model_name d.model h) ∙ sym (ap (λ ns. ns ++ equation_names_of d.equations ++ or_empty d.model ∷ []) (finished_names d.variables))
+
+finished_sound : (d : Draft) → IsSound d → is_none d.model ≡ false → undefined_from 0 d.equations d.defined ≡ None → crossing_from 0 d.variables ≡ None → Sound (finished d)
+finished_sound d s m u c =
+    let e = same_names d m in
+    let size : length d.variables ≡ length (finished_variables d.variables) = sym (finished_length d.variables) in
+    record {
+      free = subst (All IsFree) e (All-from_recursion IsFree (draft_names d) s.names.free);
+      apart = apart_pairs (all_names (finished d)) (subst Apart e s.names.apart);
+      few_variables = subst (λ n. n ≤ 512) size s.few_variables;
+      few_equations = s.few_equations;
+      variables = All-from_recursion SoundVariable (finished_variables d.variables) (variables_sound 0 d.variables s.limits c);
+      equations = subst (λ n. All (SoundEquation n) d.equations) size (All-from_recursion (SoundEquation (length d.variables)) d.equations (all_defined (length d.variables) 0 d.equations d.defined s.equations u));
+      goal = subst (λ n. SoundGoal n d.goal) size s.goal;
+    }
+
+finish_sound : (d : Draft) (m : Model) → IsSound d → is_none d.model ≡ false → finish d ≡ Ok m → Sound m
+finish_sound d m s h e = go (undefined_from 0 d.equations d.defined) (crossing_from 0 d.variables) refl refl e
+  where
+    go : (u c : Option ModelFault) → undefined_from 0 d.equations d.defined ≡ u → crossing_from 0 d.variables ≡ c → finish_by (or_else u c) d ≡ Ok m → Sound m
+    go (Some f) c p q e = absurd (let z : ◌≡◌ {A = Result Model ModelFault} (Err f) (Ok m) = e in cc)
+    go None (Some f) p q e = absurd (let z : ◌≡◌ {A = Result Model ModelFault} (Err f) (Ok m) = e in cc)
+    go None None p q e = subst Sound (let z : ◌≡◌ {A = Result Model ModelFault} (Ok (finished d)) (Ok m) = e in cc) (finished_sound d s h p q)
+
+-- ---- texts
+pub sound_model : (m : Model) → HasText m → Sound m
+sound_model m h = go (after_all h.text nothing_yet h.is.statements) (file_sound h.text h.is.has.lexemes h.is.statements h.is.has.file (good_lexemes h.text h.is.has.lexemes h.is.has.has) h.is.has.level nothing_yet sound_start) h.is.is
+  where
+    go : (r : Step) → SoundEnd r → whole_meaning_by r ≡ Ok m → Sound m
+    go (Ok d) s e = finish_sound d m s.0 s.1 e
+    go (Err f) s e = absurd (let z : ◌≡◌ {A = Result Model ModelFault} (Err f) (Ok m) = e in cc)

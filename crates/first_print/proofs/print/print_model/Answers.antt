@@ -1,0 +1,13 @@
+use Rattle.first_print.specs.Canonical.{IsCanonical}
+use Rattle.first_print.proofs.Soundness.{sound_model}
+use Rattle.first_print.proofs.Whole.{reads_back}
+use Rattle.first_print.proofs.Printable.{printable_model, alone}
+use Rattle.first_print.proofs.print.print_model.Goals as goal
+
+pub returns : goal.returns
+returns c =
+    let m = c.args.model.now in
+    record {
+      canonical = λ h. alone (IsCanonical m) c.new-out.result.items c.write_model.new.out.items c.new-out.ensures.items (c.in_ok-write_model.ensures (printable_model m (sound_model m h)));
+      reads_back = λ h. reads_back m c.write_model.new.out.items (sound_model m h) (alone (IsCanonical m) c.new-out.result.items c.write_model.new.out.items c.new-out.ensures.items (c.in_ok-write_model.ensures (printable_model m (sound_model m h))));
+    }

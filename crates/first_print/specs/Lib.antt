@@ -1,0 +1,5 @@
+pub mod Canonical
+pub mod Decimals
+pub mod Lines
+pub mod Marks
+pub mod ReadsBack

@@ -1,0 +1,12 @@
+pub mod Grammar
+pub mod Items
+pub mod Lexemes
+pub mod Machine
+pub mod Nesting
+pub mod Performing
+pub mod Rules
+pub mod Shapes
+pub mod Sides
+pub mod Steps
+pub mod Texts
+pub mod Laws

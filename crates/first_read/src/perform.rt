@@ -1,0 +1,141 @@
+//! From items to a draft, rule by rule.
+ghost use Rattle.std.specs.Prelude.{◌≡◌};
+ghost use Rattle.first_read.specs.Steps.{DraftsAll};
+ghost use Rattle.first_read.specs.Rules.{nothing_yet};
+ghost use Rattle.first_read.specs.Performing.{Does, idle, item_step, begun, begun_variables, related, ended};
+
+use crate::declare::{equation_in, no_tree, variable_in};
+use crate::draft::Draft;
+use crate::fault::ModelFault;
+use crate::item::Item;
+use crate::lexeme::{Domain, Lexeme};
+use crate::progress::{Progress, Second, Side};
+use first_ast::model::Relation;
+use std::alloc::Global;
+
+impl Progress {
+    ghost use Rattle.first_read.specs.Rules.{discrete_fault};
+
+    fn new(alloc: Global) -> Progress
+        ensures { result ≡ idle nothing_yet }
+    {
+        Progress {
+            draft: Draft::new(alloc),
+            equation: 0,
+            left: no_tree(alloc),
+            relation: Relation::Nothing,
+            side: Side::new(alloc),
+        }
+    }
+
+    /// A declaration of variables begins; none of discrete ones may.
+    fn begin_variables(&mut self, domain: Domain, lexeme: Lexeme) -> Result<(), ModelFault>
+        ensures { Does result self.new (begun_variables self.old (discrete_fault domain lexeme)) }
+    {
+        match domain {
+            Domain::Discrete => Err(ModelFault::Discrete(lexeme.place)),
+            Domain::Free => Ok(()),
+            Domain::Positive => Ok(()),
+            Domain::Negative => Ok(()),
+        }
+    }
+
+    /// A definition begins.
+    fn begin(&mut self, alloc: Global, text: &[u8], lexeme: Lexeme) -> Result<(), ModelFault>
+        ensures { Does result self.new (begun text.now self.old lexeme) }
+    {
+        match equation_in(self.draft.declared_as(alloc, text, lexeme)?) {
+            Some(number) => {
+                if self.draft.is_defined(number) {
+                    return Err(ModelFault::Twice(lexeme.place));
+                }
+                self.equation = number;
+                Ok(())
+            }
+            None => Err(ModelFault::Undeclared(lexeme.place)),
+        }
+    }
+
+    /// The left side ends.
+    fn relate(&mut self, alloc: Global, relation: Relation)
+        ensures { self.new ≡ related self.old relation }
+    {
+        let side = std::mem::replace(&mut self.side, Side::new(alloc));
+        self.left = side.tree;
+        self.relation = relation;
+    }
+
+    /// The right side ends.
+    fn end(&mut self, alloc: Global)
+        ensures { self.new ≡ ended self.old }
+    {
+        let left = std::mem::replace(&mut self.left, no_tree(alloc));
+        let side = std::mem::replace(&mut self.side, Side::new(alloc));
+        self.draft
+            .define(self.equation, left, self.relation, side.tree);
+        self.equation = 0;
+        self.relation = Relation::Nothing;
+    }
+
+    /// Performs an item; `rest` are the items behind it.
+    fn perform_item(
+        &mut self,
+        alloc: Global,
+        text: &[u8],
+        item: Item,
+        rest: &[Item],
+    ) -> Result<(), ModelFault>
+        ensures { Does result self.new (item_step text.now self.old item rest.now) }
+    {
+        match item {
+            Item::Begins(domain, lexeme) => self.begin_variables(domain, lexeme),
+            Item::Variable(domain, lexeme) => {
+                self.draft.declare_variable(alloc, text, domain, lexeme)
+            }
+            Item::Equation(lexeme) => self.draft.declare_equation(alloc, text, lexeme),
+            Item::Defines(lexeme) => self.begin(alloc, text, lexeme),
+            Item::Relates(relation) => {
+                self.relate(alloc, relation);
+                Ok(())
+            }
+            Item::Ends => {
+                self.end(alloc);
+                Ok(())
+            }
+            Item::Number(lexeme, value) => self.side.number(lexeme, value),
+            Item::Name(lexeme) => {
+                let found = variable_in(self.draft.declared_as(alloc, text, lexeme)?);
+                self.side.name(lexeme, found)
+            }
+            Item::Enters(lexeme) => self.side.enter(lexeme, rest),
+            Item::Lists => {
+                self.side.second = Second::Awaited;
+                Ok(())
+            }
+            Item::Applies(lexeme) => self.side.apply(lexeme),
+            Item::Groups => Ok(()),
+            Item::Raises(lexeme, value) => self.side.raise(lexeme, value),
+            Item::Signs(sign, lexeme) => self.side.sign(lexeme, sign),
+            Item::Joins(operator, lexeme) => self.side.join(lexeme, operator),
+            Item::Sets(lexeme, attribute, limit) => {
+                let found = self.draft.declared_as(alloc, text, lexeme)?;
+                self.draft.set(lexeme, attribute, limit, found)
+            }
+            Item::Model(lexeme) => self.draft.declare_model(alloc, text, lexeme),
+            Item::Solves(lexeme) => self.draft.solve(alloc, text, lexeme),
+            Item::Aims(sense, lexeme) => self.draft.aim(alloc, text, sense, lexeme),
+        }
+    }
+}
+
+/// What the statements of the items declare, define and set, or the first rule that they break.
+#[tactic(auto, using(crate::proofs::Performed::performing))]
+pub fn perform(alloc: Global, text: &[u8], items: &[Item]) -> Result<Draft, ModelFault>
+    ensures { DraftsAll text.now items.now result }
+{
+    let mut progress = Progress::new(alloc);
+    for i in 0..items.len() {
+        progress.perform_item(alloc, text, items[i], &items[i + 1..])?;
+    }
+    Ok(progress.draft)
+}
