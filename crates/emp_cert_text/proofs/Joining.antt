@@ -66,7 +66,7 @@ whole_long c old head e h =
 pub ruleset whole = (to_z-of_z, whole_ok, whole_long)
 
 -- ---- sizes
-few_node : (pairs quantities : ℕ) (n : Node) → quantities ≤ 512 → NodeFits pairs quantities n → HasFew n
+pub few_node : (pairs quantities : ℕ) (n : Node) → quantities ≤ 512 → NodeFits pairs quantities n → HasFew n
 few_node pairs quantities (Branch k) l h = tt
 few_node pairs quantities (Farkas fs) l h = omega (arith, h.0)
 few_node pairs quantities (Bound w fs) l h = omega (arith, h.2)

@@ -1,3 +1,4 @@
 pub mod Adding
 pub mod Joining
 pub mod Upgrading
+pub mod Reading

@@ -1,3 +1,5 @@
 pub mod Text
 pub mod Writing
 pub mod Upgrading
+pub mod Words
+pub mod Reading

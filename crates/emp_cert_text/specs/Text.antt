@@ -73,8 +73,11 @@ abbrev pub version_text : Bool → List ℕ
 version_text false = codes "emp certificate 1\n"
 version_text true = codes "emp certificate 2\n"
 
+abbrev pub sizes_text : ℕ → ℕ → ℕ → List ℕ
+sizes_text base quantities pairs = line (codes "rows") (decimal base ∷ (decimal quantities ∷ (decimal pairs ∷ [])))
+
 abbrev pub counts_text : Cert → List ℕ
-counts_text c = line (codes "rows") (decimal c.base ∷ (decimal c.quantities ∷ (decimal c.pairs ∷ [])))
+counts_text c = sizes_text c.base c.quantities c.pairs
 
 abbrev pub cert_text : Cert → List ℕ
 cert_text c = version_text (is_second c.links) ++ (counts_text c ++ (links_text c.links ++ (verdict_text (is_second c.links) c.verdict ++ codes "end\n")))

@@ -1,6 +1,9 @@
 //! The texts of certificates.
 #![tactic(auto)]
 
+pub mod lines;
 pub mod pieces;
+pub mod read;
 pub mod upgrade;
+pub mod words;
 pub mod write;

@@ -198,7 +198,7 @@ pub fn add_ray(out: &mut Vec<u8>, values: &[Frac]) -> Result<(), AllocError>
 
 /// Adds the line of a pair.
 #[tactic(auto, using(crate::proofs::Adding::adding))]
-fn add_pair(out: &mut Vec<u8>, pair: (u32, u32)) -> Result<(), AllocError>
+pub fn add_pair(out: &mut Vec<u8>, pair: (u32, u32)) -> Result<(), AllocError>
     ensures { OnOk result (out.new.items ≡ out.old.items ++ pair_text pair) }
 {
     out.extend_from_slice(b"pair")?;
