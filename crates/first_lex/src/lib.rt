@@ -9,6 +9,4 @@ pub mod laws;
 pub mod lexer;
 pub mod piece;
 pub mod scan;
-#[cfg(test)]
-mod tests;
 pub mod token;

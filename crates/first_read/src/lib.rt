@@ -23,5 +23,3 @@ pub mod shape;
 pub mod side;
 pub mod symbol;
 pub mod table;
-#[cfg(test)]
-mod tests;

@@ -11,9 +11,6 @@ use crate::symbol::{Move, Next, Symbol};
 use first_ast::tree::Place;
 use std::alloc::{AllocError, Global};
 
-#[cfg(test)]
-mod tests;
-
 fn write(out: &mut Vec<Item>, item: Option<Item>) -> Result<(), AllocError>
     ensures { OnOk result (out.new.items ≡ add out.old.items item) }
 {

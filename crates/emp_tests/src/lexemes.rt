@@ -1,10 +1,10 @@
 //! Lexemes, each written as one letter, and how they are read.
-use crate::fault::ModelFault;
-use crate::lexeme::{Domain, Lexeme, Scale, Sign, Sort, Word};
-use crate::parse::parse;
+use emp_ast::model::Relation;
+use emp_ast::tree::Place;
 use emp_num::frac::Frac;
-use first_ast::model::Relation;
-use first_ast::tree::Place;
+use gms_read::fault::ModelFault;
+use gms_read::lexeme::{Domain, Lexeme, Scale, Sign, Sort, Word};
+use gms_read::parse::parse;
 use std::alloc::Global;
 use std::test::Fail;
 
