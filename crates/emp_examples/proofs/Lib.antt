@@ -10,3 +10,4 @@ pub mod Sharing
 pub mod Rations
 pub mod Bilevel
 pub mod Convexity
+pub mod Rules

@@ -5,3 +5,4 @@ pub mod Rivals
 pub mod Multipliers
 pub mod Sharing
 pub mod Bilevel
+pub mod Rules

@@ -9,6 +9,7 @@ ghost use Rattle.emp_examples.specs.Parties.{ExamplesOfParties, ExamplesOfImplic
 ghost use Rattle.emp_examples.specs.Rivals.{ExamplesOfGivenValues, ExamplesOfRivals, ExamplesOfInequalities, ExamplesOfAgents};
 ghost use Rattle.emp_examples.specs.Multipliers.{ExamplesOfMultipliers, ExamplesOfSigns};
 ghost use Rattle.emp_examples.specs.Sharing.{ExamplesOfSharing, ExamplesOfRations};
+ghost use Rattle.emp_examples.specs.Rules.{ExamplesOfRules};
 ghost use Rattle.emp_examples.specs.Bilevel.{ExamplesOfBilevel, ExamplesOfRays, ExamplesOfConvexity};
 
 /// The values of expressions, equations and bounds at points, and which nodes are an expression.
@@ -84,4 +85,9 @@ pub fn examples_of_rays()
 /// An agent that is convex and one that is not.
 pub fn examples_of_convexity()
     ensures { ExamplesOfConvexity }
+{}
+
+/// The rules of ownership.
+pub fn examples_of_rules()
+    ensures { ExamplesOfRules }
 {}
