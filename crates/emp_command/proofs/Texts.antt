@@ -5,7 +5,7 @@ use Rattle.emp_desk.specs.Desk.{Place, Contents, Told, KeepsAll, NoneFalls, load
 use Rattle.emp_command.specs.declared.refusal.Refusal.{Refusal}
 use Rattle.emp_command.specs.declared.refusal.Refusal.TheVariants.{BadWords, BadWork, BadFirms, Unread, TooLong, Unwritten, NoMemory}
 use Rattle.emp_command.specs.Course.{FilesFit, limit_of}
-use Rattle.emp_command.specs.Refusals.{IsFile, IsLong, IsUnloaded, HoldTexts, SomeUnloaded}
+use Rattle.emp_command.specs.Refusals.{IsFile, IsLong, IsUnloaded, HoldTexts, SomeUnloaded, TextsFit}
 use Rattle.emp_command.proofs.Telling.{told_join, told_both, told_map, rose_second}
 
 fit_more : (x : Contents) (k : ℕ) (names : List (List ℕ)) (name : List ℕ) → FilesFit x k names → length (x.holds name) ≤ limit_of (k + length names) → FilesFit x k (names ++ name ∷ [])
@@ -78,6 +78,9 @@ module _ {X : Type 0} (f : X → List ℕ) (xs : List X) (i : ℕ) (x : X) (belo
 pub all_held : {X : Type 0} (f : X → List ℕ) (xs : List X) (i : ℕ) (texts : List (List ℕ)) (t0 t1 : Option Contents) → length xs ≤ i → Told (HoldTexts 1 (map f (take i xs)) texts) t0 t1 → Told (HoldTexts 1 (map f xs) texts) t0 t1
 all_held f xs i texts t0 t1 h k = subst (λ ys. Told (HoldTexts 1 (map f ys) texts) t0 t1) (take_all i xs h) k
 
+pub held_as : (names texts others : List (List ℕ)) (t0 t1 : Option Contents) → others ≡ texts → Told (HoldTexts 1 names texts) t0 t1 → Told (HoldTexts 1 names others) t0 t1
+held_as names texts others t0 t1 e h = subst (λ ts. Told (HoldTexts 1 names ts) t0 t1) (sym e) h
+
 pub none_held : (t : Option Contents) → Told (HoldTexts 1 [] []) t t
 none_held t = told_map KeepsAll (HoldTexts 1 [] []) (λ x y k. record { fit = tt; texts_are = refl }) t t (none_kept t)
 
@@ -87,4 +90,11 @@ kept_on t0 t1 t2 h k = told_join KeepsAll KeepsAll KeepsAll keeps_on t0 t1 t2 h 
 pub kept_here : (t : Option Contents) → Told KeepsAll t t
 kept_here t = none_kept t
 
-pub ruleset loading = (kept_here, kept_on, none_held, one_more, one_unloaded, all_held)
+text_more : (k : ℕ) (ts : List (List ℕ)) (t : List ℕ) → TextsFit k ts → length t ≤ limit_of (k + length ts) → TextsFit k (ts ++ t ∷ [])
+text_more k [] t h l = (subst (λ j. length t ≤ limit_of j) (let e : k + 0 ≡ k = omega arith in e) l, tt)
+text_more k (u ∷ ts) t h l = (h.0, text_more (k + 1) ts t h.1 (subst (λ j. length t ≤ limit_of j) (let e : k + length (u ∷ ts) ≡ k + 1 + length ts = omega arith in e) l))
+
+pub one_fits : (i : ℕ) (ts : List (List ℕ)) (t : List ℕ) → length ts ≡ i → TextsFit 1 ts → length t ≤ limit_of (i + 1) → TextsFit 1 (ts ++ t ∷ [])
+one_fits i ts t e h l = text_more 1 ts t h (subst (λ j. length t ≤ limit_of j) (let n : i + 1 ≡ 1 + length ts = omega arith in n) l)
+
+pub ruleset loading = (one_fits, kept_here, kept_on, none_held, one_more, one_unloaded, all_held)

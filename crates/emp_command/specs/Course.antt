@@ -89,4 +89,4 @@ NeedsNoMemory words = (IsPlain words → ⊥) ⊎ ((r : Asked) × Asks words r �
 -- prefix was said
 pub data Runs (answers : Asked → List (List ℕ) → Outcome → Type 0) (words : List (List ℕ)) (old new : Place → ℕ) (before after : Contents) : ℕ → Type 0 where
   delivered : (o : Outcome) (status : ℕ) → IsDue answers words old new before o → Delivers o before after status → Runs answers words old new before after status
-  cut_short : (o : Outcome) → NeedsNoMemory words → IsDue answers words old new before o → SaysPrefix o.says before after → Runs answers words old new before after o.status
+  cut_short : (o : Outcome) → NeedsNoMemory words → (o.status ≡ 10) ⊎ (o.status ≡ 24) → IsDue answers words old new before o → SaysPrefix o.says before after → Runs answers words old new before after o.status

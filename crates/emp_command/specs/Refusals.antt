@@ -1,5 +1,5 @@
 -- The status and the line of a refusal, and why files were not loaded.
-use Rattle.std.specs.Prelude.{◌≡◌, ℕ, ◌+◌, ◌<◌, ◌≤◌, List, ◌∷◌, ◌++◌, map, length, Option}
+use Rattle.std.specs.Prelude.{◌≡◌, ℕ, ◌+◌, ◌<◌, ◌≤◌, List, [], ◌∷◌, ◌++◌, map, length, Option}
 use Rattle.emp_desk.specs.Desk.{Place, loads, Contents, Told, Rose}
 use Rattle.emp_command.specs.declared.refusal.Refusal.{Refusal}
 use Rattle.emp_command.specs.declared.refusal.Refusal.TheVariants.{BadWords, BadWork, BadFirms, Unread, TooLong, Unwritten, NoMemory}
@@ -55,3 +55,8 @@ pub record SomeUnloaded (names : List (List ℕ)) (f0 f1 : Place → ℕ) (t0 t1
   pub files : names ≡ earlier ++ name ∷ later
   pub fit : Told (λ before after. FilesFit before 1 earlier) t0 t1
   pub why : IsUnloaded name (length earlier + 1) f0 f1 t0 t1 r
+
+-- the texts from number k on are each within their limit
+abbrev pub TextsFit : ℕ → List (List ℕ) → Type 0
+TextsFit k [] = Unit {0}
+TextsFit k (t ∷ ts) = (length t ≤ limit_of k) × TextsFit (k + 1) ts

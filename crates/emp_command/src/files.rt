@@ -2,7 +2,7 @@
 ghost use Rattle.std.specs.Prelude.{◌≡◌, ◌≤◌, ◌<◌, ◌+◌, length, map, string_bytes, IfOk, IfErr};
 ghost use Rattle.emp_desk.specs.Desk.{Told, KeepsAll, NoneFalls};
 ghost use Rattle.emp_command.specs.Course.{limit_of};
-ghost use Rattle.emp_command.specs.Refusals.{IsFile, IsUnloaded, HoldTexts, SomeUnloaded};
+ghost use Rattle.emp_command.specs.Refusals.{IsFile, IsUnloaded, HoldTexts, SomeUnloaded, TextsFit};
 
 use crate::refusal::Refusal;
 use emp_desk::desk::{Desk, LoadFault};
@@ -30,6 +30,7 @@ fn limit_of(file: u64) -> usize
 /// The bytes of the file of a number, unless it is too long.
 fn load<D: Desk>(alloc: Global, name: &str, file: u64, desk: &mut D) -> Result<Vec<u8>, Refusal>
     ensures bytes { IfOk result (λ v. Told (IsFile name.now file v.items) (D.tells desk.old) (D.tells desk.new)) }
+    ensures short { IfOk result (λ v. length v.items ≤ limit_of file) }
     ensures refused { IfErr result (IsUnloaded name.now file (D.faults desk.old) (D.faults desk.new) (D.tells desk.old) (D.tells desk.new)) }
     ensures keeps { Told KeepsAll (D.tells desk.old) (D.tells desk.new) }
     ensures none_falls { NoneFalls (D.faults desk.old) (D.faults desk.new) }
@@ -51,6 +52,8 @@ pub fn load_all<D: Desk>(
     desk: &mut D,
 ) -> Result<Seq<Seq<u8>>, Refusal>
     ensures texts { IfOk result (λ v. Told (HoldTexts 1 (map string_bytes names.now) v) (D.tells desk.old) (D.tells desk.new)) }
+    ensures count { IfOk result (λ v. length v ≡ length names.now) }
+    ensures short { IfOk result (TextsFit 1) }
     ensures refused { IfErr result (SomeUnloaded (map string_bytes names.now) (D.faults desk.old) (D.faults desk.new) (D.tells desk.old) (D.tells desk.new)) }
     ensures keeps { Told KeepsAll (D.tells desk.old) (D.tells desk.new) }
     ensures none_falls { NoneFalls (D.faults desk.old) (D.faults desk.new) }
