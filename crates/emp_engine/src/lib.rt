@@ -14,5 +14,7 @@ pub mod reader;
 pub mod report;
 pub mod rows;
 pub mod run;
+#[cfg(test)]
+mod tests;
 pub mod token;
 pub mod words;

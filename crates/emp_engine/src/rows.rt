@@ -89,3 +89,32 @@ fn with_sign(negative: bool, number: u64) -> i128
     let number = number as i128;
     if negative { -number } else { number }
 }
+
+#[cfg(test)]
+mod tests {
+    use super::*;
+    use std::test::Fail;
+
+    // 8 - 6 y + 4 x
+    #[test]
+    fn a_row(rt: HostRuntime) -> Result<(), Fail> {
+        let terms = [
+            Term {
+                negative: false,
+                product: Product::Constant(8),
+            },
+            Term {
+                negative: true,
+                product: Product::Multiple(6, 1),
+            },
+            Term {
+                negative: false,
+                product: Product::Multiple(4, 0),
+            },
+        ];
+        let row = row(rt.alloc(), 2, &terms)?;
+        assert!(rt; row.cells.as_slice() == [2, -3].as_slice());
+        assert_eq!(rt; row.constant, 4);
+        Ok(())
+    }
+}

@@ -1,6 +1,6 @@
 //! Worked rows of the program, over a desk in memory.
+use crate::run::run;
 use emp_desk::memory_desk::MemoryDesk;
-use emp_engine::run::run;
 use std::alloc::{AllocError, Global};
 use std::test::Fail;
 
