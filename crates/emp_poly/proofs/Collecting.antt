@@ -1,13 +1,11 @@
 -- Lists of terms from coefficients in order.
-use Rattle.std.proofs.Common.{◌≡◌, ◌≢◌, ◌⊎◌, inl, inr, ℕ, zero, suc, ◌+◌, ◌<◌, ◌≤◌, ℤ, pos, negsuc, ◌*ℤ◌, Bool, true, false, ◌&&◌, ◌||◌, not, cond, List, [], ◌∷◌, ◌++◌, length, get_or, take, Option, Some, None, arith, refl, sym, ap, ap₂, subst, subst₂, ◌∙◌}
+use Rattle.std.proofs.Common.{◌≡◌, ◌≢◌, ◌⊎◌, inl, inr, ℕ, zero, suc, ◌+◌, ◌<◌, ◌≤◌, ℤ, pos, negsuc, Bool, true, false, ◌&&◌, ◌||◌, not, cond, List, [], ◌∷◌, ◌++◌, Option, Some, None, arith, refl, sym, ap, ap₂, subst, subst₂, ◌∙◌}
 use Rattle.std.specs.Prelude.{nat_lt, nat_eq}
 use Rattle.std.specs.List.{AllByRecursion}
 use Rattle.std.specs.List.Sorted.{IsStrictlySortedBy}
 use Rattle.std.specs.Ordering.{nat_cmp, ordering_then}
-use Rattle.std.specs.declared.cmp.Ordering.{Ordering}
 use Rattle.std.specs.declared.cmp.Ordering.TheVariants.{Less, Equal, Greater}
-use Rattle.std.proofs.lemmas.List.{take_more, take_all}
-use borrow.Author.Tests.{ltb-false, ltb-true}
+use borrow.Author.Tests.{ltb-true}
 use Rattle.emp_num.specs.Whole.{whole}
 use Rattle.emp_num.specs.declared.frac.Frac.{Frac}
 use Rattle.emp_ast.specs.declared.tree.VarId.{VarId}
@@ -17,7 +15,7 @@ use Rattle.emp_expand.specs.Factors.{monomial_cmp, In}
 use Rattle.emp_expand.proofs.Keys.{key_cases}
 use Rattle.emp_poly.specs.Terms.{is_not_zero, is_linear_from, comes_from, is_square_from}
 use Rattle.emp_poly.specs.Quads.{linear_at, square_at}
-use Rattle.emp_poly.specs.Parts.{IsKey, variable, linear_more, linear_part, square_more, square_part}
+use Rattle.emp_poly.specs.Parts.{IsKey, linear_more, linear_part, square_more, square_part}
 
 -- ---- one more at the end
 linear_more-append : (u v : Option ℕ) (x : Frac) (ts rs : List (VarId × Frac)) → linear_more u v x ts ++ rs ≡ linear_more u v x (ts ++ rs)

@@ -1,9 +1,9 @@
 -- The terms of a derivative.
-use Rattle.std.proofs.Common.{◌≡◌, ◌≢◌, ◌⊎◌, inl, inr, ℕ, zero, suc, ◌+◌, ◌<◌, ◌≤◌, ℤ, pos, negsuc, ◌*ℤ◌, ◌<ℤ◌, Bool, true, false, ◌&&◌, ◌||◌, not, cond, List, [], ◌∷◌, ◌++◌, length, get_or, take, drop, arith, refl, sym, ap, ap₂, subst, subst₂, ◌∙◌, append-nil, append_assoc}
+use Rattle.std.proofs.Common.{◌≡◌, ◌≢◌, ◌⊎◌, inl, inr, ℕ, zero, suc, ◌+◌, ◌<◌, ◌≤◌, ℤ, pos, negsuc, ◌*ℤ◌, ◌<ℤ◌, Bool, true, false, ◌&&◌, not, cond, List, [], ◌∷◌, ◌++◌, length, get_or, take, arith, refl, sym, ap, ap₂, subst, subst₂, ◌∙◌, append-nil, append_assoc}
 use Rattle.std.specs.Prelude.{nat_lt, nat_eq}
 use Rattle.std.proofs.lemmas.Int.{ints}
-use Rattle.std.proofs.lemmas.List.{take_more, take_all, drop_more}
-use lib.IntN.{zero-*ℤ, *ℤ-zero}
+use Rattle.std.proofs.lemmas.List.{take_more, take_all}
+use lib.IntN.{zero-*ℤ}
 use borrow.Author.Tests.{ltb-false, ltb-true}
 use Rattle.emp_algebra.proofs.Order.{cancel_right}
 use Rattle.emp_algebra.proofs.Ring.{var, lit, ◌⊕◌, ◌⊗◌, by_ring}
@@ -15,12 +15,12 @@ use Rattle.emp_ast.specs.declared.tree.VarId.{VarId}
 use Rattle.emp_form.specs.Form.{Form}
 use Rattle.emp_form.proofs.Formulas.{is_zero}
 use Rattle.emp_form.proofs.Running.{multiplies_narrow}
-use Rattle.emp_poly.specs.Terms.{is_not_zero, is_linear_from, is_linear, is_square_from, is_square}
+use Rattle.emp_poly.specs.Terms.{is_not_zero, is_linear_from, is_linear, is_square_from}
 use Rattle.emp_poly.specs.Quads.{linear_at, square_at, HasForm}
 use Rattle.emp_poly.specs.Gradient.{partial_at, partial_form, LinHasForm, DoubleIsWide, IsGradient, derived_one, derived}
 use Rattle.emp_poly.specs.declared.quad.Quad.{Quad}
 use Rattle.emp_poly.specs.declared.quad.Lin.{Lin}
-use Rattle.emp_poly.proofs.QuadForms.{is_same, same_is, apart, number_cases, SquareFacts, square_facts, pair_apart}
+use Rattle.emp_poly.proofs.QuadForms.{same_is, apart, number_cases, SquareFacts, square_facts, pair_apart}
 
 -- ---- one more term
 derived-append : (v : ℕ) (d : Frac) (ts : List (VarId × VarId × Frac)) (t : VarId × VarId × Frac) → derived v d (ts ++ t ∷ []) ≡ derived v d ts ++ derived_one v d t

@@ -4,3 +4,6 @@ pub mod Gatherings
 pub mod Values
 pub mod Writing
 pub mod Deriving
+pub mod Spreading
+pub mod Lessening
+pub mod Telling

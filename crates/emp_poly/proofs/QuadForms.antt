@@ -1,5 +1,5 @@
 -- Each polynomial has a form, and its value is that of each form that it has.
-use Rattle.std.proofs.Common.{◌≡◌, ◌≢◌, ◌⊎◌, inl, inr, ℕ, zero, suc, ◌+◌, ◌<◌, ◌≤◌, ℤ, pos, ◌+ℤ◌, ◌*ℤ◌, ◌<ℤ◌, Bool, true, false, ◌&&◌, ◌||◌, not, cond, List, [], ◌∷◌, arith, refl, sym, ap, ap₂, subst, subst₂, ◌∙◌, length}
+use Rattle.std.proofs.Common.{◌≡◌, ◌≢◌, ◌⊎◌, inl, inr, ℕ, ◌+◌, ◌<◌, ◌≤◌, ℤ, pos, ◌+ℤ◌, ◌*ℤ◌, ◌<ℤ◌, Bool, true, false, ◌&&◌, ◌||◌, not, cond, List, [], ◌∷◌, arith, refl, sym, ap, ap₂, subst, subst₂, ◌∙◌, length}
 use Rattle.std.specs.Prelude.{nat_lt, nat_eq}
 use Rattle.std.proofs.lemmas.Int.{ints}
 use lib.IntN.{zero-*ℤ, *ℤ-zero}
@@ -9,16 +9,17 @@ use Rattle.emp_algebra.proofs.Laws.{mul_pos}
 use Rattle.emp_algebra.proofs.Order.{cancel_right}
 use Rattle.emp_algebra.proofs.Ring.{var, lit, ◌⊕◌, ◌⊗◌, by_ring}
 use Rattle.emp_num.specs.FracSpec.{IsQuotient}
-use Rattle.emp_num.specs.Ratio.{Ratio, ratio, plus, times, SameRatio}
+use Rattle.emp_num.specs.Ratio.{Ratio, plus, times, SameRatio}
 use Rattle.emp_num.specs.Point.{Point, coordinate}
 use Rattle.emp_num.specs.Whole.{whole}
 use Rattle.emp_num.specs.declared.frac.Frac.{Frac}
 use Rattle.emp_ast.specs.declared.tree.VarId.{VarId}
-use Rattle.emp_form.specs.Form.{Form, sum_to, line, column, quadratic, crossed, top_at, form_value, form_of, unit_at, variable_form, scaled, sum_form, product_form, IsConstant, IsLinear}
+use Rattle.emp_form.specs.Form.{Form, line, column, quadratic, crossed, top_at, form_value, form_of, unit_at, variable_form, sum_form, product_form, IsConstant, IsLinear}
 use Rattle.emp_form.proofs.Lines.{sum_to-below, line-scale, quadratic-scale}
 use Rattle.emp_form.proofs.FormLaws.{Entry, entry_number, entry_variable, entry_sum, entry_product}
-use Rattle.emp_poly.specs.Terms.{is_not_zero, is_linear_from, is_linear, comes_from, is_square_from, is_square}
+use Rattle.emp_poly.specs.Terms.{is_not_zero, is_linear_from, comes_from, is_square_from}
 use Rattle.emp_poly.specs.Quads.{linear_at, square_at, as_ratio, linear_value, square_value, quad_value, HasForm}
+use Rattle.emp_poly.specs.Laws.{SameCoefficients}
 use Rattle.emp_poly.specs.declared.quad.Quad.{Quad}
 
 -- ---- the form of a polynomial
@@ -322,18 +323,13 @@ has_quad_form q =
     }
 
 -- ---- forms with the same coefficients have the same value
-pub record SameForms (f g : Form) : Type 0 where
-  pub constant : f.constant *ℤ g.den ≡ g.constant *ℤ f.den
-  pub linear : (i : ℕ) → f.linear i *ℤ g.den ≡ g.linear i *ℤ f.den
-  pub square : (i j : ℕ) → i ≤ j → f.square i j *ℤ g.den ≡ g.square i j *ℤ f.den
-
 one_ratio : (x : Frac) (z d w e : ℤ) → IsQuotient x z d → IsQuotient x w e → z *ℤ e ≡ w *ℤ d
 one_ratio x z d w e h k =
     cancel_right (z *ℤ e) (w *ℤ d) x.den
     (by_ring (z ∷ e ∷ x.den ∷ []) (var 0 ⊗ var 1 ⊗ var 2) (var 0 ⊗ var 2 ⊗ var 1) refl ∙ (ap (λ y. y *ℤ e) (sym h) ∙ (by_ring (x.num ∷ d ∷ e ∷ []) (var 0 ⊗ var 1 ⊗ var 2) (var 0 ⊗ var 2 ⊗ var 1) refl ∙ (ap (λ y. y *ℤ d) k ∙ by_ring (w ∷ x.den ∷ d ∷ []) (var 0 ⊗ var 1 ⊗ var 2) (var 0 ⊗ var 2 ⊗ var 1) refl))))
     x.positive
 
-pub same_forms : (q : Quad) (f g : Form) → HasForm q f → HasForm q g → SameForms f g
+pub same_forms : (q : Quad) (f g : Form) → HasForm q f → HasForm q g → SameCoefficients f g
 same_forms q f g h k = record {
   constant = one_ratio q.constant f.constant f.den g.constant g.den h.constant k.constant;
   linear = λ i. one_ratio (linear_at q.linear i) (f.linear i) f.den (g.linear i) g.den (h.linear i) (k.linear i);
@@ -350,7 +346,7 @@ quadratic_same n s t x h =
 turned_scale : (z e : ℤ) → z *ℤ e ≡ e *ℤ z
 turned_scale z e = by_ring (z ∷ e ∷ []) (var 0 ⊗ var 1) (var 1 ⊗ var 0) refl
 
-top_same : (n : ℕ) (d : ℤ) (x : ℕ → ℤ) (f g : Form) → SameForms f g → g.den *ℤ top_at n d x f ≡ f.den *ℤ top_at n d x g
+top_same : (n : ℕ) (d : ℤ) (x : ℕ → ℤ) (f g : Form) → SameCoefficients f g → g.den *ℤ top_at n d x f ≡ f.den *ℤ top_at n d x g
 top_same n d x f g s = sym (scaled_top g.den f) ∙ (between ∙ scaled_top f.den g)
   where
     scaled_top : (k : ℤ) (f : Form) → k *ℤ f.constant *ℤ (d *ℤ d) +ℤ (d *ℤ line n (λ i. k *ℤ f.linear i) x +ℤ quadratic n (λ i j. k *ℤ f.square i j) x) ≡ k *ℤ top_at n d x f
@@ -366,7 +362,7 @@ top_same n d x f g s = sym (scaled_top g.den f) ∙ (between ∙ scaled_top f.de
     between : g.den *ℤ f.constant *ℤ (d *ℤ d) +ℤ (d *ℤ line n (λ i. g.den *ℤ f.linear i) x +ℤ quadratic n (λ i j. g.den *ℤ f.square i j) x) ≡ f.den *ℤ g.constant *ℤ (d *ℤ d) +ℤ (d *ℤ line n (λ i. f.den *ℤ g.linear i) x +ℤ quadratic n (λ i j. f.den *ℤ g.square i j) x)
     between = ap₂ (λ c r. c *ℤ (d *ℤ d) +ℤ r) (swap f.constant g.den g.constant f.den s.constant) (ap₂ (λ l q. d *ℤ l +ℤ q) (line_same n (λ i. g.den *ℤ f.linear i) (λ i. f.den *ℤ g.linear i) x (λ i l. swap (f.linear i) g.den (g.linear i) f.den (s.linear i))) (quadratic_same n (λ i j. g.den *ℤ f.square i j) (λ i j. f.den *ℤ g.square i j) x (λ i j l. swap (f.square i j) g.den (g.square i j) f.den (s.square i j l))))
 
-pub same_values : (p : Point) (f g : Form) → SameForms f g → SameRatio (form_value p f) (form_value p g)
+pub same_values : (p : Point) (f g : Form) → SameCoefficients f g → SameRatio (form_value p f) (form_value p g)
 same_values p f g s =
     by_ring (top_at (length p.nums) p.den (cell p.nums) f ∷ g.den ∷ p.den ∷ []) (var 0 ⊗ (var 1 ⊗ (var 2 ⊗ var 2))) (var 1 ⊗ var 0 ⊗ (var 2 ⊗ var 2)) refl ∙ (ap (λ z. z *ℤ (p.den *ℤ p.den)) (top_same (length p.nums) p.den (cell p.nums) f g s) ∙ by_ring (top_at (length p.nums) p.den (cell p.nums) g ∷ f.den ∷ p.den ∷ []) (var 1 ⊗ var 0 ⊗ (var 2 ⊗ var 2)) (var 0 ⊗ (var 1 ⊗ (var 2 ⊗ var 2))) refl)
 

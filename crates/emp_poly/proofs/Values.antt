@@ -1,7 +1,6 @@
 -- The polynomial of a tree has the tree's value.
-use Rattle.std.proofs.Common.{◌≡◌, ℕ, zero, suc, ◌<◌, pos, ◌<ℤ◌, List, [], ◌∷◌, length, get_or, Some, Err, arith, sym, ap, subst}
+use Rattle.std.proofs.Common.{◌≡◌, ℕ, zero, suc, ◌<◌, List, [], ◌∷◌, length, get_or, Some, Err, arith, sym, ap, subst}
 use Rattle.std.specs.Prelude.{slice_get}
-use Rattle.emp_num.specs.Ratio.{Ratio, SameRatio}
 use Rattle.emp_num.specs.Point.{Point}
 use Rattle.emp_ast.specs.declared.tree.Tree.{Tree}
 use Rattle.emp_ast.specs.declared.tree.Place.{Place}
@@ -20,12 +19,13 @@ use Rattle.emp_poly.specs.Parts.{Collects}
 use Rattle.emp_poly.specs.Trees.{IsFirst, IsExpansion, FromTreeGives, HasTreeValue, IsFaultAt}
 use Rattle.emp_poly.specs.declared.tree.PolyFault.{PolyFault}
 use Rattle.emp_poly.specs.declared.quad.Quad.{Quad}
+use Rattle.emp_poly.proofs.Gatherings.{loosely}
 use Rattle.emp_poly.proofs.QuadForms.{quad_is_form, ratio_trans, form_bottom}
 
 pub expansion : (t : Tree) (c : Coefficients) (q : Quad) → Expands t.nodes c → Collects c q → IsExpansion t q
 expansion t c q e k =
-    let h = k (form (expression_of t.nodes)) e.stands in
-    record { free = e.free; polynomial = e.polynomial; coefficients = h.0; small = h.1 }
+    let f = form (expression_of t.nodes) in
+    record { free = e.free; polynomial = e.polynomial; coefficients = k.form f (loosely c f e.stands); small = k.small f e.stands }
 
 pub tree_value_is : (t : Tree) (q : Quad) (p : Point) → IsExpansion t q → HasTreeValue t q p
 tree_value_is t q p e =

@@ -5,3 +5,5 @@ pub mod Trees
 pub mod Written
 pub mod Gradient
 pub mod Laws
+pub mod Difference
+pub mod Spread

@@ -1,9 +1,10 @@
 -- How a polynomial is collected from its coefficients. This serves proofs; no meaning cites it.
-use Rattle.std.specs.Prelude.{◌≡◌, ℕ, false, nat_lt, List, [], ◌∷◌, ◌++◌, Option, Some, None}
+use Rattle.std.specs.Prelude.{◌≡◌, ◌≢◌, ℕ, pos, ◌<ℤ◌, false, nat_lt, List, [], ◌∷◌, ◌++◌, Option, Some, None}
 use Rattle.emp_num.specs.declared.frac.Frac.{Frac}
 use Rattle.emp_ast.specs.declared.tree.VarId.{VarId}
 use Rattle.emp_form.specs.Form.{Form, Monomial}
-use Rattle.emp_form.specs.Wide.{Fractions}
+use Rattle.emp_form.specs.Wide.{Fractions, HasFractions}
+use Rattle.emp_expand.specs.Factors.{factor, fractions}
 use Rattle.emp_expand.specs.Stands.{Stands}
 use Rattle.emp_expand.specs.declared.coefficients.Coefficients.{Coefficients}
 use Rattle.emp_poly.specs.Quads.{HasForm, IsSmallQuad}
@@ -47,6 +48,13 @@ pub record Collected (a : Fractions) (ks : List Monomial) (parts : Parts) : Type
   pub linear : parts.linear ≡ linear_part a ks
   pub square : parts.square ≡ square_part a ks
 
+-- the coefficients are those of the form, none of those that are there is 0, and their numbers may be large
+pub record StandsLoosely (c : Coefficients) (f : Form) : Type 0 where
+  pub den : pos 0 <ℤ f.den
+  pub values : HasFractions (fractions c) f
+  pub some : (k : Monomial) (x : Frac) → factor c k ≡ Some x → x.num ≢ pos 0
+
 -- the polynomial has each form that the coefficients stand for
-abbrev pub Collects : Coefficients → Quad → Type 0
-Collects c q = (f : Form) → Stands c f → HasForm q f × IsSmallQuad q
+pub record Collects (c : Coefficients) (q : Quad) : Type 0 where
+  pub form : (f : Form) → StandsLoosely c f → HasForm q f
+  pub small : (f : Form) → Stands c f → IsSmallQuad q

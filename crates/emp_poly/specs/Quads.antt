@@ -1,5 +1,5 @@
 -- The coefficients and the value of a polynomial.
-use Rattle.std.specs.Prelude.{◌≡◌, ℕ, ◌≤◌, ◌<◌, ◌^◌, pos, ◌<ℤ◌, ◌&&◌, cond, nat_eq, List, [], ◌∷◌, unsigned_abs}
+use Rattle.std.specs.Prelude.{ℕ, ◌≤◌, ◌<◌, ◌^◌, pos, ◌<ℤ◌, ◌&&◌, cond, nat_eq, List, [], ◌∷◌, unsigned_abs}
 use Rattle.emp_num.specs.FracSpec.{IsQuotient}
 use Rattle.emp_num.specs.Ratio.{Ratio, ratio, plus, times}
 use Rattle.emp_num.specs.Point.{Point, coordinate}

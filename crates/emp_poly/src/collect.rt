@@ -1,8 +1,7 @@
 //! A polynomial from its coefficients.
 ghost use Rattle.std.specs.Prelude.{◌≡◌, true, IfOk, OnOk};
 ghost use Rattle.emp_form.specs.Form.{Form};
-ghost use Rattle.emp_expand.specs.Stands.{Stands};
-ghost use Rattle.emp_poly.specs.Parts.{Takes, Collected, Collects};
+ghost use Rattle.emp_poly.specs.Parts.{Takes, Collected, StandsLoosely, Collects};
 ghost use Rattle.emp_poly.specs.Terms.{is_linear, is_square};
 ghost use Rattle.emp_expand.specs.Factors.{fractions};
 
@@ -71,9 +70,9 @@ fn quad_of(constant: Frac, parts: Parts) -> Quad
     }
 }
 
-/// The coefficients in their order.
+/// The coefficients in their order; their numbers may be large.
 pub fn collected(alloc: Global, all: &Coefficients) -> Result<Quad, AllocError>
-    requires { (f : Form) × Stands all.now f }
+    requires { (f : Form) × StandsLoosely all.now f }
     ensures { IfOk result (λ q. Collects all.now q) }
 {
     let listed = all.products(alloc)?;
