@@ -1,0 +1,6 @@
+use Rattle.std.proofs.Common.{◌≡◌, flat_map, take}
+use Rattle.emp_flow.specs.Flow.{block_slots}
+use Rattle.emp_flow.proofs.rows.slots_of.Given as goal
+
+abbrev pub invariant-loop-at : goal.invariant-loop-at
+invariant-loop-at l = l.out ≡ flat_map block_slots (take l.at l.annot.blocks)

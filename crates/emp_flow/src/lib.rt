@@ -1,0 +1,11 @@
+//! Variational inequalities over free variables.
+//!
+//! `decide` expands the equations, makes one quantity for each own variable and walks over them; `specs/Flow.antt` says which
+//! files these are and which quantities, `specs/Decides.antt` each outcome, and `laws` what an outcome means of the file.
+#![tactic(auto)]
+
+pub mod decide;
+pub mod expand;
+pub mod form;
+pub mod laws;
+pub mod rows;
