@@ -1,0 +1,108 @@
+//! Reports: a line of what was found, a line of its work, and what was found.
+ghost use Rattle.std.specs.Prelude.{◌≡◌, ◌++◌, codes, decimal, map, IfOk, OnOk};
+ghost use Rattle.std.specs.Fmt.{signed_decimal};
+ghost use Rattle.emp_report.specs.Report.{equilibrium_report, factors_text, missing_report, point_lines};
+ghost use Rattle.emp_num.specs.FracText.{fraction_text};
+ghost use Rattle.emp_ast.specs.Names.{variable_names};
+
+use emp_ast::model::{Model, Variable};
+use emp_list::name::Name;
+use emp_num::frac::Frac;
+use emp_num::print::print_frac;
+use itoa::Buffer;
+use std::alloc::{AllocError, Global};
+
+/// The report of an equilibrium: the value of each variable in order, after that much work.
+///
+/// The only error is that no memory is left.
+pub fn equilibrium(
+    alloc: Global,
+    work: u64,
+    model: &Model,
+    point: &[Frac],
+) -> Result<Vec<u8>, AllocError>
+    ensures { IfOk result (λ v. v.items ≡ equilibrium_report work (variable_names model.now) point.now) }
+{
+    let mut out = Vec::new(alloc);
+    append(&mut out, b"equilibrium\n")?;
+    append_work(&mut out, work)?;
+    append_point(&mut out, model.variables.as_slice(), point)?;
+    Ok(out)
+}
+
+/// The report that there is no equilibrium, with the factors of the rows, after that much work.
+///
+/// The only error is that no memory is left.
+pub fn missing(alloc: Global, work: u64, factors: &[i128]) -> Result<Vec<u8>, AllocError>
+    ensures { IfOk result (λ v. v.items ≡ missing_report work factors.now) }
+{
+    let mut out = Vec::new(alloc);
+    append(&mut out, b"no equilibrium\n")?;
+    append_work(&mut out, work)?;
+    append(&mut out, b"nodes 1\n")?;
+    append(&mut out, b"row")?;
+    append_factors(&mut out, factors)?;
+    append(&mut out, b"\n")?;
+    Ok(out)
+}
+
+fn append(out: &mut Vec<u8>, text: &[u8]) -> Result<(), AllocError>
+    ensures { OnOk result (out.new.items ≡ out.old.items ++ text.now) }
+{
+    out.extend_from_slice(text)?;
+    Ok(())
+}
+
+fn append_work(out: &mut Vec<u8>, work: u64) -> Result<(), AllocError>
+    ensures { OnOk result (out.new.items ≡ out.old.items ++ codes "work " ++ decimal work ++ codes "\n") }
+{
+    let mut buffer = Buffer::new();
+    append(out, b"work ")?;
+    append(out, buffer.format(work).as_bytes())?;
+    append(out, b"\n")
+}
+
+fn append_number(out: &mut Vec<u8>, number: i128) -> Result<(), AllocError>
+    ensures { OnOk result (out.new.items ≡ out.old.items ++ signed_decimal number) }
+{
+    let mut buffer = Buffer::new();
+    append(out, buffer.format(number).as_bytes())
+}
+
+fn append_fraction(out: &mut Vec<u8>, fraction: Frac) -> Result<(), AllocError>
+    ensures { OnOk result (out.new.items ≡ out.old.items ++ fraction_text fraction) }
+{
+    let mut text = [0; 96];
+    let size = print_frac(fraction, &mut text);
+    append(out, &text[..size])
+}
+
+fn append_value(out: &mut Vec<u8>, name: &Name, value: Frac) -> Result<(), AllocError>
+    ensures { OnOk result (out.new.items ≡ out.old.items ++ name.now ++ codes " = " ++ fraction_text value ++ codes "\n") }
+{
+    append(out, name.as_bytes())?;
+    append(out, b" = ")?;
+    append_fraction(out, value)?;
+    append(out, b"\n")
+}
+
+#[tactic(auto, using(crate::proofs::ReportLemmas::reports))]
+fn append_point(out: &mut Vec<u8>, variables: &[Variable], point: &[Frac]) -> Result<(), AllocError>
+    ensures { OnOk result (out.new.items ≡ out.old.items ++ point_lines (map (λ v. v.name) variables.now) point.now) }
+{
+    for at in 0..variables.len().min(point.len()) {
+        append_value(out, &variables[at].name, point[at])?;
+    }
+    Ok(())
+}
+
+#[tactic(auto, using(crate::proofs::ReportLemmas::reports))]
+fn append_factors(out: &mut Vec<u8>, factors: &[i128]) -> Result<(), AllocError>
+    ensures { OnOk result (out.new.items ≡ out.old.items ++ factors_text factors.now) }
+{
+    for factor in factors {
+        append(out, b" ")?;
+        append_number(out, *factor)?;
+    }
+    Ok(())
+}
