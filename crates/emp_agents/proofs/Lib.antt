@@ -1,0 +1,5 @@
+pub mod Terms
+pub mod Values
+pub mod Given
+pub mod Sums
+pub mod Convex

@@ -1,0 +1,5 @@
+use Rattle.emp_agents.proofs.Given as Given
+use Rattle.emp_agents.proofs.laws.given_form_is.Goals as goal
+
+pub returns : goal.returns
+returns c = Given.given_form_is
