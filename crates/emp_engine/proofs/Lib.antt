@@ -1,30 +1,7 @@
-pub mod EssentialLemmas
-pub mod FirstLaw
-pub mod FormLexemes
-pub mod FormRead
-pub mod FormStatements
-pub mod FormSums
-pub mod LeavingOut
-pub mod Lexing
-pub mod LineRoom
-pub mod Loading
-pub mod OutlineNames
-pub mod PairingSaid
-pub mod ParsingComplete
-pub mod ParsingNames
-pub mod ParsingSays
-pub mod ParsingSound
-pub mod ParsingSteps
-pub mod ParsingTested
-pub mod ParsingTests
-pub mod ParsingWhole
-pub mod Reading
-pub mod ReportLemmas
-pub mod RowLemmas
-pub mod RunLemmas
-pub mod Settling
-pub mod Showing
-pub mod SumValue
-pub mod Telling
-pub mod ThreeItems
-pub mod WalkGives
+mod Blocks
+mod Within
+mod Answering
+mod Ending
+mod Headline
+mod Printing
+mod Saying

@@ -1,20 +1,9 @@
-//! The top call: what the program does with its words and a desk.
+//! The top call: it loads two files, decides what they state, and says it.
+//!
+//! `run` is what the program calls. `specs/Run.antt` has the words of its clauses, `specs/Answers.antt` what is answered over the
+//! texts of a request.
 #![tactic(auto)]
 
-pub mod decide;
-pub mod essential;
-pub mod fault;
-pub mod fault_line;
-pub mod laws;
-pub mod lexer;
-pub mod outline;
-pub mod pairing;
-pub mod parser;
-pub mod reader;
-pub mod report;
-pub mod rows;
+pub mod answer;
 pub mod run;
-#[cfg(test)]
-mod tests;
-pub mod token;
-pub mod words;
+pub mod solve;

@@ -1,13 +1,28 @@
-use Rattle.std.proofs.Common.{◌∙◌}
-use Rattle.emp_engine.proofs.RunLemmas.{answer_ends, fault_ends}
+use Rattle.std.proofs.Common.{◌∙◌, sym, subst, string_bytes}
+use Rattle.std.proofs.lemmas.List.{length-map}
+use Rattle.emp_command.specs.Requests.{asked_of}
+use Rattle.emp_engine.proofs.Saying.{said_ends}
+use Rattle.emp_engine.proofs.Ending.{two_texts, starved_ends, unloaded_ends}
+use Rattle.emp_engine.specs.Outcomes.{AreTwoTexts}
 use Rattle.emp_engine.proofs.run.carry_out.Goals as goal
+
+pub answer-requires : goal.answer-requires
+answer-requires g c = record {
+  two = λ b.
+      subst AreTwoTexts (sym c.as_slice.ensures) (two_texts (asked_of c.args.request.now) c.requires.plain b c.in-Ok.texts (c.in-Ok.ensures.count ∙ sym (length-map c.args.request.now.files.now string_bytes)) c.in-Ok.ensures.short);
+}
+
+pub returns-in-Ok-answer : goal.returns-in-Ok-answer
+returns-in-Ok-answer g c words asks =
+    let h = c.in-Ok.ensures in
+    said_ends words _ _ _ _ _ _ h.none_falls h.keeps (asked_of c.args.request.now) asks c.requires.range c.in-Ok.texts c.as_slice.result.now c.in-Ok-answer.answer _ c.as_slice.ensures h.texts c.in-Ok-answer.ensures c.say.ensures.told c.say.ensures.cause
 
 pub returns-in-Ok : goal.returns-in-Ok
 returns-in-Ok g c words asks =
     let h = c.in-Ok.ensures in
-    answer_ends words _ _ _ asks _ _ _ _ _ _ h.none_falls c.say.ensures.none_falls h.keeps c.in-Ok.answer _ _ c.as_slice.ensures.value h.status h.answer c.say.ensures.ends
+    starved_ends words _ _ _ _ _ _ h.none_falls h.keeps c.say_refusal.ensures.none_falls (asked_of c.args.request.now) asks c.requires.range _ c.say_refusal.ensures.told c.say_refusal.ensures.cause
 
-pub returns-in-Err : goal.returns-in-Err
-returns-in-Err g c words asks =
+pub returns : goal.returns
+returns g c words asks =
     let h = c.in-Err.ensures in
-    fault_ends words _ _ _ asks _ _ _ _ _ _ h.none_falls c.say-in-Err.ensures.none_falls h.keeps c.in-Err.fault _ _ _ c.status.ensures (c.as_slice-in-Err.ensures.value ∙ c.line.ensures) h.cause c.say-in-Err.ensures.ends
+    unloaded_ends words _ _ _ _ _ _ h.none_falls h.keeps c.say_refusal-in-Err.ensures.none_falls (asked_of c.args.request.now) asks c.requires.range c.in-Err.refusal _ h.refused c.say_refusal-in-Err.ensures.told c.say_refusal-in-Err.ensures.cause

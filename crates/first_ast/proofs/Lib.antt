@@ -1,5 +1,0 @@
-pub mod ExampleLaws
-pub mod ExampleAgents
-pub mod ExampleSharing
-pub mod ExampleSigns
-pub mod Finding

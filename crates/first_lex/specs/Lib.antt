@@ -1,6 +1,0 @@
-pub mod Bytes
-pub mod DollarLines
-pub mod Forms
-pub mod Laws
-pub mod Pieces
-pub mod Tokens

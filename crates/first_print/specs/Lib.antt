@@ -1,5 +1,0 @@
-pub mod Canonical
-pub mod Decimals
-pub mod Lines
-pub mod Marks
-pub mod ReadsBack
