@@ -2,6 +2,8 @@
 #![tactic(auto)]
 
 #[cfg(test)]
+mod annotation_texts;
+#[cfg(test)]
 mod convexity;
 #[cfg(test)]
 mod desks;
@@ -10,6 +12,16 @@ mod model_texts;
 #[cfg(test)]
 mod numbers;
 #[cfg(test)]
+mod ownership;
+#[cfg(test)]
+mod polynomials;
+#[cfg(test)]
+mod printed_annotations;
+#[cfg(test)]
 mod printed_texts;
 #[cfg(test)]
+mod small_pairs;
+#[cfg(test)]
 mod tokens;
+#[cfg(test)]
+mod words;
