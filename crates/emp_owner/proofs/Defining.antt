@@ -2,7 +2,7 @@
 use Rattle.std.proofs.Common.{◌≡◌, ◌⊎◌, inl, inr, ℕ, zero, suc, ◌+◌, ◌<◌, ◌≤◌, ◌≢◌, min, Bool, true, false, cond, ◌&&◌, ◌||◌, not, nat_eq, List, [], ◌∷◌, length, get_or, Option, Some, None, arith, refl, sym, ap, ap₂, subst, ◌∙◌}
 use Rattle.std.specs.Prelude.{slice_get, filter}
 use Rattle.std.specs.List.{list_any}
-use Rattle.std.proofs.lemmas.Bool.{eq-eqb, ne_eqb, eqb-true, and_parts, and_from, cases_eq, false≢true}
+use Rattle.std.proofs.lemmas.Bool.{eq-eqb, ne_eqb, eqb-true, and_parts, and_from, cases_eq, cases_lt, false≢true}
 use Rattle.emp_ast.specs.declared.tree.VarId.{VarId}
 use Rattle.emp_ast.specs.declared.tree.EquId.{EquId}
 use Rattle.emp_ast.specs.declared.model.Equation.{Equation}
@@ -18,7 +18,7 @@ use Rattle.emp_ast.proofs.Given.{summand_leaf}
 use Rattle.emp_ast.specs.Parties.{names_variable, names_equation, block_variables, block_equations, listed_equations, some_block_has, holders, has_no_bound, is_dual, is_implicit_equation, ties, can_define, has_alone, defines_by, defines, is_equality, block_objective, equations_by, functions, block_functions, is_constraint, block, leader, equations, all_equations}
 use Rattle.emp_owner.specs.Rules.{constrained_among}
 use Rattle.emp_owner.specs.NodeLeaves.{AreCounts}
-use Rattle.emp_owner.specs.Finding.{may_be_defined, may_define, FindsAlone, FindsLeft, block_defines, IsBlockDefinition, is_entry, block_constrains}
+use Rattle.emp_owner.specs.Finding.{may_be_defined, may_define, FindsAlone, FindsLeft, block_defines, IsBlockDefinition, AreAlone, is_entry, block_constrains}
 use Rattle.emp_owner.specs.Settled.{IsDefinition, AreDefinitions}
 use Rattle.emp_owner.proofs.Lists.{any_filter, block_has, get_is}
 
@@ -225,6 +225,46 @@ constrains_at m a list k b d e are l is_b is_d = constrains_is m a k b d e (get_
 
 pub constrained_more : (m : Model) (a : Annot) (e k : ℕ) → constrained_among m a e (k + 1) ≡ constrained_among m a e k + cond (is_constraint m a (block k) e) 1 0
 constrained_more m a e k = let step : k + 1 ≡ suc k = omega arith in ap (constrained_among m a e) step
+
+-- ---- equations that one block alone has, by the table
+entry_of : (list : List Bool) (e : ℕ) → e < length list → slice_get list e ≡ Some (get_or list e false)
+entry_of [] e l = absurd (omega arith)
+entry_of (b ∷ list) zero l = refl
+entry_of (b ∷ list) (suc e) l = entry_of list e (omega arith)
+
+entry_past : (list : List Bool) (e : ℕ) → length list ≤ e → get_or list e false ≡ false
+entry_past [] e l = refl
+entry_past (b ∷ list) zero l = absurd (omega arith)
+entry_past (b ∷ list) (suc e) l = entry_past list e (omega arith)
+
+no_equation : (w : ℕ) (qs : List Equation) (e : ℕ) → length qs ≤ e → ties w (slice_get qs e) ≡ false
+no_equation w [] e l = refl
+no_equation w (q ∷ qs) zero l = absurd (omega arith)
+no_equation w (q ∷ qs) (suc e) l = no_equation w qs e (omega arith)
+
+and_false : (b : Bool) → (b && false) ≡ false
+and_false true = refl
+and_false false = refl
+
+and_true : (b : Bool) → (b && true) ≡ b
+and_true true = refl
+and_true false = refl
+
+pub alone_is : (m : Model) (a : Annot) (list : List Bool) (w e : ℕ) → AreAlone m a list → get_or list e false ≡ true → may_define m a w e ≡ (may_define m a w e && nat_eq (holders a e) 1)
+alone_is m a list w e are h = go (cases_lt e (length list))
+  where
+    go : (e < length list) ⊎ (length list ≤ e) → may_define m a w e ≡ (may_define m a w e && nat_eq (holders a e) 1)
+    go (inl l) = sym (ap (λ b. may_define m a w e && b) (sym (are.alone e (get_or list e false) (entry_of list e l)) ∙ h) ∙ and_true (may_define m a w e))
+    go (inr l) = absurd (false≢true (sym (entry_past list e l) ∙ h))
+
+pub alone_not : (m : Model) (a : Annot) (list : List Bool) (w e : ℕ) → AreAlone m a list → get_or list e false ≡ false → (may_define m a w e && nat_eq (holders a e) 1) ≡ false
+alone_not m a list w e are h = go (cases_lt e (length list))
+  where
+    go : (e < length list) ⊎ (length list ≤ e) → (may_define m a w e && nat_eq (holders a e) 1) ≡ false
+    go (inl l) = ap (λ b. may_define m a w e && b) (sym (are.alone e (get_or list e false) (entry_of list e l)) ∙ h) ∙ and_false (may_define m a w e)
+    go (inr l) = ap (λ b. b && not (is_implicit_equation a e) && nat_eq (holders a e) 1) (no_equation w m.equations e (omega (arith, are.count)))
+
+pub ruleset knowing = (alone_is, alone_not)
 
 pub ruleset counting = (once_by_counts)
 

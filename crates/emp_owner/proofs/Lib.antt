@@ -3,3 +3,4 @@ pub mod NodeLeaves
 pub mod Defining
 pub mod Ruling
 pub mod Owning
+pub mod Tying

@@ -1,5 +1,5 @@
 -- Definitions as they are looked for: among the equations of a block. This serves the proofs of `settle` alone.
-use Rattle.std.specs.Prelude.{◌≡◌, ℕ, ◌+◌, ◌<◌, Bool, true, false, ◌&&◌, not, nat_eq, List, length, slice_get, Option, Some, None}
+use Rattle.std.specs.Prelude.{◌≡◌, ℕ, ◌+◌, ◌<◌, Bool, true, false, ◌&&◌, ◌||◌, not, nat_eq, List, length, slice_get, Option, Some, None}
 use Rattle.std.specs.List.{list_any}
 use Rattle.emp_ast.specs.declared.tree.VarId.{VarId}
 use Rattle.emp_ast.specs.declared.tree.EquId.{EquId}
@@ -14,9 +14,11 @@ use Rattle.emp_owner.specs.declared.search.EquationRule.{EquationRule}
 use Rattle.emp_owner.specs.declared.search.EquationRule.TheVariants.{NeedsOneListing, NeedsListing, NeedsFunctionRelation, NeedsOneDual, NeedsEquality}
 use Rattle.emp_owner.specs.declared.search.ConstraintRule.{ConstraintRule}
 use Rattle.emp_owner.specs.declared.search.ConstraintRule.TheVariants.{NeedsConstraint, NeedsOneBlock}
+use Rattle.emp_owner.specs.declared.tied.Tied.{Tied}
+use Rattle.emp_owner.specs.declared.tied.Tied.TheVariants.{Nothing, One, More}
 use Rattle.emp_owner.specs.Rules.{unowned, owned_twice, equation_twice, equation_left, vi_relation, not_constraint, dual_shared, dual_twice, dual_bound, implicit_use, implicit_relation}
 use Rattle.emp_owner.specs.Settled.{FirstVariable, NoVariable, FirstEquation, NoEquation}
-use Rattle.emp_ast.specs.Parties.{block_owns, some_block_owns, names_equation, block_equations, some_block_has, holders, has_no_bound, is_dual, is_implicit_equation, ties, can_define, block_objective, functions}
+use Rattle.emp_ast.specs.Parties.{block_owns, some_block_owns, names_equation, block_equations, some_block_has, holders, has_no_bound, is_dual, is_implicit_equation, ties, can_define, block_objective, block_variables, listed_equations, names_variable, functions}
 
 -- w has no finite bound, is no dual variable, and is a leaf once
 abbrev pub may_be_defined : Model → Annot → ℕ → Bool
@@ -93,3 +95,28 @@ constraint_test NeedsOneBlock m a = dual_shared m a
 -- a constraint of a block whose definition is the entry
 abbrev pub block_constrains : Annot → Block → Option EquId → ℕ → Bool
 block_constrains a b d e = names_equation (block_equations a b) e && not (is_entry d e) && not (names_equation (functions b) e)
+
+-- ---- the variables in an implicit pair with an equation
+abbrev pub tied_with : Tied → VarId → Tied
+tied_with Nothing v = One v
+tied_with (One w) v = More
+tied_with More v = More
+
+-- one of them passes the test
+abbrev pub tied_by : Tied → List (VarId × EquId) → ℕ → (ℕ → Bool) → Bool
+tied_by Nothing pairs e test = false
+tied_by (One v) pairs e test = test v.at
+tied_by More pairs e test = list_any (λ i. nat_eq i.1.at e && test i.0.at) pairs
+
+-- what a test of the variables gives, by those in an implicit pair with e
+abbrev pub TellsTied : List (VarId × EquId) → ℕ → Tied → Type 0
+TellsTied pairs e t = (test : ℕ → Bool) → list_any (λ i. nat_eq i.1.at e && test i.0.at) pairs ≡ tied_by t pairs e test
+
+-- the block lists the equation, or owns one of them
+abbrev pub has_by : Tied → Annot → Block → ℕ → Bool
+has_by t a b e = names_equation (listed_equations b) e || tied_by t a.implicits e (names_variable (block_variables b))
+
+-- ---- one entry for each equation: whether exactly one block has it
+pub record AreAlone (m : Model) (a : Annot) (list : List Bool) : Type 0 where
+  pub count : length list ≡ length m.equations
+  pub alone : (e : ℕ) (b : Bool) → slice_get list e ≡ Some b → b ≡ nat_eq (holders a e) 1

@@ -3,11 +3,13 @@ ghost use Rattle.std.specs.Prelude.{◌≡◌, ◌+◌, ◌&&◌, ◌||◌, min,
 ghost use Rattle.std.specs.List.{list_any, count_by};
 ghost use Rattle.emp_ast.specs.Parties.{names_variable, names_equation, block_variables, listed_equations, functions, block_equations, some_block_owns, some_block_has, holders};
 ghost use Rattle.emp_owner.specs.Rules.{variable_times, equation_times, is_twice, owners_of, is_listed, is_function, listings, objective_is, pair_names, has_role};
+ghost use Rattle.emp_owner.specs.Finding.{tied_by, has_by};
 
 use crate::listed::{
     equation_times, function_times, is_function_of, is_paired, names_equation, names_variable,
     paired_times, variable_times,
 };
+use crate::tied::{Tied, tied_variables};
 use emp_ast::annot::{Annot, Block};
 use emp_ast::tree::{EquId, VarId};
 
@@ -101,7 +103,7 @@ pub fn has_function(block: &Block, e: EquId) -> bool
 }
 
 /// Whether the equation is that of an implicit variable which the block owns.
-pub fn ties(annot: &Annot, block: &Block, e: EquId) -> bool
+fn ties(annot: &Annot, block: &Block, e: EquId) -> bool
     ensures { result ≡ list_any (λ i. nat_eq i.1.at e.at && names_variable (block_variables block.now) i.0.at) annot.now.implicits }
 {
     annot
@@ -111,12 +113,23 @@ pub fn ties(annot: &Annot, block: &Block, e: EquId) -> bool
         .any(|pair| pair.1.at == e.at && owns(block, pair.0))
 }
 
-/// Whether the equation is one of the block's: listed, or that of an implicit variable that it owns.
-#[tactic(auto, using(crate::proofs::Lists::listing))]
-pub fn has(annot: &Annot, block: &Block, e: EquId) -> bool
-    ensures { result ≡ names_equation (block_equations annot.now block.now) e.at }
+/// Whether the block owns one of these variables, which are those in an implicit pair with the equation.
+fn owns_tied(annot: &Annot, block: &Block, e: EquId, tied: Tied) -> bool
+    ensures { result ≡ tied_by tied annot.now.implicits e.at (names_variable (block_variables block.now)) }
 {
-    lists(block, e) || ties(annot, block, e)
+    match tied {
+        Tied::Nothing => false,
+        Tied::One(v) => owns(block, v),
+        Tied::More => ties(annot, block, e),
+    }
+}
+
+/// Whether the equation is one of the block's: listed, or that of an implicit variable that it owns. The variables are those
+/// in an implicit pair with the equation: they are looked up once for all blocks.
+pub fn has(annot: &Annot, block: &Block, e: EquId, tied: Tied) -> bool
+    ensures { result ≡ has_by tied annot.now block.now e.at }
+{
+    lists(block, e) || owns_tied(annot, block, e, tied)
 }
 
 /// Whether the variable is the block's objective or in one of its pairs.
@@ -211,27 +224,39 @@ pub fn has_role(annot: &Annot, v: VarId) -> bool
         .any(|block| gives_role(block, v))
 }
 
-/// Whether the equation is one of a block's.
-pub fn some_has(annot: &Annot, e: EquId) -> bool
-    ensures { result ≡ some_block_has annot.now e.at }
+/// Whether the equation is one of a block's, by the variables that are in an implicit pair with it.
+fn some_has_by(annot: &Annot, e: EquId, tied: Tied) -> bool
+    ensures { result ≡ list_any (λ b. has_by tied annot.now b e.at) annot.now.blocks }
 {
     annot
         .blocks
         .as_slice()
         .iter()
-        .any(|block| has(annot, block, e))
+        .any(|block| has(annot, block, e, tied))
 }
 
-/// Whether the equation is one of exactly one block's.
-#[tactic(auto, using(crate::proofs::Lists::holding))]
-pub fn one_has(annot: &Annot, e: EquId) -> bool
-    ensures { result ≡ nat_eq (holders annot.now e.at) 1 }
+/// Whether the equation is one of a block's.
+pub fn some_has(annot: &Annot, e: EquId) -> bool
+    ensures { result ≡ some_block_has annot.now e.at }
 {
-    let holders = annot
+    some_has_by(annot, e, tied_variables(annot, e))
+}
+
+/// How many blocks have the equation, by the variables that are in an implicit pair with it.
+fn holders_by(annot: &Annot, e: EquId, tied: Tied) -> usize
+    ensures { result ≡ count_by (λ b. has_by tied annot.now b e.at) annot.now.blocks }
+{
+    annot
         .blocks
         .as_slice()
         .iter()
-        .filter(|block| has(annot, *block, e))
-        .count();
-    holders == 1
+        .filter(|block| has(annot, *block, e, tied))
+        .count()
+}
+
+/// Whether the equation is one of exactly one block's.
+pub fn one_has(annot: &Annot, e: EquId) -> bool
+    ensures { result ≡ nat_eq (holders annot.now e.at) 1 }
+{
+    holders_by(annot, e, tied_variables(annot, e)) == 1
 }

@@ -2,11 +2,12 @@
 ghost use Rattle.std.specs.Prelude.{◌≡◌, ◌≤◌, cond, length};
 ghost use Rattle.emp_ast.specs.declared.model.Model.{Model};
 ghost use Rattle.emp_owner.specs.Rules.{constrained, not_constraint, dual_shared};
-ghost use Rattle.emp_owner.specs.Finding.{is_entry, block_constrains};
+ghost use Rattle.emp_owner.specs.Finding.{is_entry, block_constrains, TellsTied};
 ghost use Rattle.emp_owner.specs.Settled.{AreDefinitions};
 
 use crate::blocks::{has, has_function};
 use crate::listed::{names_equation, pairs_equation};
+use crate::tied::{Tied, tied_variables};
 use emp_ast::annot::{Annot, Block};
 use emp_ast::tree::EquId;
 use emp_list::seq::Seq;
@@ -22,10 +23,12 @@ fn is_entry(entry: Option<EquId>, e: EquId) -> bool
 }
 
 /// Whether the equation is a constraint of the block with this definition.
-fn constrains(annot: &Annot, block: &Block, definition: Option<EquId>, e: EquId) -> bool
+#[tactic(auto, using(crate::proofs::Tying::having))]
+fn constrains(annot: &Annot, block: &Block, definition: Option<EquId>, e: EquId, tied: Tied) -> bool
+    requires tied { TellsTied annot.now.implicits e.at tied }
     ensures { result ≡ block_constrains annot.now block.now definition e.at }
 {
-    has(annot, block, e) && !is_entry(definition, e) && !has_function(block, e)
+    has(annot, block, e, tied) && !is_entry(definition, e) && !has_function(block, e)
 }
 
 /// 1 where it is so, and else 0.
@@ -41,9 +44,10 @@ fn times_constrained(annot: &Annot, defined: &Seq<Option<EquId>>, e: EquId) -> u
     requires entries { length defined.now ≡ length annot.now.blocks }
     ensures { (m : Model) → AreDefinitions m annot.now defined.now → result ≡ constrained m annot.now e.at }
 {
+    let tied = tied_variables(annot, e);
     let mut times = 0;
     for at in 0..annot.blocks.len() {
-        times += one_if(constrains(annot, annot.blocks.get(at), *defined.get(at), e));
+        times += one_if(constrains(annot, annot.blocks.get(at), *defined.get(at), e, tied));
     }
     times
 }

@@ -1,8 +1,8 @@
 //! Which equation defines the objective of a party.
-ghost use Rattle.std.specs.Prelude.{◌≡◌, ◌<◌, ◌&&◌, nat_eq, length, get_or, slice_get, IfOk, Some};
+ghost use Rattle.std.specs.Prelude.{◌≡◌, ◌<◌, ◌&&◌, nat_eq, false, length, get_or, slice_get, IfOk, Some};
 ghost use Rattle.emp_ast.specs.Parties.{is_open, has_no_bound, ties, holders, leader};
 ghost use Rattle.emp_owner.specs.NodeLeaves.{AreCounts};
-ghost use Rattle.emp_owner.specs.Finding.{may_be_defined, may_define, FindsAlone, FindsLeft, IsBlockDefinition};
+ghost use Rattle.emp_owner.specs.Finding.{may_be_defined, may_define, FindsAlone, FindsLeft, IsBlockDefinition, AreAlone};
 ghost use Rattle.emp_owner.specs.Settled.{IsDefinition, IsLeaderDefinition, AreDefinitions};
 
 use crate::blocks::{one_has, some_has};
@@ -90,17 +90,40 @@ fn may_define(
     }
 }
 
-/// The same, for an equation that exactly one block has.
+/// For each equation whether exactly one block has it.
+fn alone_table(alloc: Global, model: &Model, annot: &Annot) -> Result<Seq<bool>, NoMemory>
+    requires equations { length model.now.equations < 4294967296 }
+    ensures { IfOk result (λ list. AreAlone model.now annot.now list) }
+{
+    let mut list = Seq::new(alloc);
+    for at in 0..model.equations.len() {
+        list.push(one_has(annot, EquId { at: at as u32 }))?;
+    }
+    Ok(list)
+}
+
+/// Whether the equation is there and exactly one block has it, by the table.
+fn is_alone(alone: &Seq<bool>, e: EquId) -> bool
+    ensures { result ≡ get_or alone.now e.at false }
+{
+    let at = e.at as usize;
+    at < alone.len() && *alone.get(at)
+}
+
+/// Whether the equation is such that it may define the variable, and exactly one block has it.
+#[tactic(auto, using(crate::proofs::Defining::knowing))]
 fn may_define_alone(
     alloc: Global,
     model: &Model,
     annot: &Annot,
+    alone: &Seq<bool>,
     w: VarId,
     e: EquId,
 ) -> Result<bool, NoMemory>
+    requires alone { AreAlone model.now annot.now alone.now }
     ensures { IfOk result (λ b. b ≡ (may_define model.now annot.now w.at e.at && nat_eq (holders annot.now e.at) 1)) }
 {
-    if one_has(annot, e) {
+    if is_alone(alone, e) {
         may_define(alloc, model, annot, w, e)
     } else {
         Ok(false)
@@ -113,14 +136,16 @@ fn find_alone(
     alloc: Global,
     model: &Model,
     annot: &Annot,
+    alone: &Seq<bool>,
     w: VarId,
     equs: &Seq<EquId>,
 ) -> Result<Option<EquId>, NoMemory>
+    requires alone { AreAlone model.now annot.now alone.now }
     ensures { IfOk result (λ o. FindsAlone model.now annot.now w.at equs.now o) }
 {
     for at in 0..equs.len() {
         let e = *equs.get(at);
-        if may_define_alone(alloc, model, annot, w, e)? {
+        if may_define_alone(alloc, model, annot, alone, w, e)? {
             return Ok(Some(e));
         }
     }
@@ -134,9 +159,11 @@ fn block_definition(
     model: &Model,
     annot: &Annot,
     counts: &Seq<usize>,
+    alone: &Seq<bool>,
     block: &Block,
 ) -> Result<Option<EquId>, NoMemory>
     requires counts { AreCounts (length model.now.variables) model.now.equations counts.now }
+    requires alone { AreAlone model.now annot.now alone.now }
     ensures { IfOk result (λ o. IsBlockDefinition model.now annot.now block.now o) }
 {
     match block {
@@ -146,7 +173,7 @@ fn block_definition(
             ..
         } => {
             if may_be_defined(model, annot, counts, *objective) {
-                find_alone(alloc, model, annot, *objective, equs)
+                find_alone(alloc, model, annot, alone, *objective, equs)
             } else {
                 Ok(None)
             }
@@ -162,12 +189,14 @@ pub fn block_definitions(
     annot: &Annot,
     counts: &Seq<usize>,
 ) -> Result<Seq<Option<EquId>>, NoMemory>
+    requires equations { length model.now.equations < 4294967296 }
     requires counts { AreCounts (length model.now.variables) model.now.equations counts.now }
     ensures { IfOk result (λ list. AreDefinitions model.now annot.now list) }
 {
+    let alone = alone_table(alloc, model, annot)?;
     let mut list = Seq::new(alloc);
     for at in 0..annot.blocks.len() {
-        list.push(block_definition(alloc, model, annot, counts, annot.blocks.get(at))?)?;
+        list.push(block_definition(alloc, model, annot, counts, &alone, annot.blocks.get(at))?)?;
     }
     Ok(list)
 }

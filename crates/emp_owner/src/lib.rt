@@ -14,3 +14,4 @@ mod owners;
 mod rules;
 mod search;
 pub mod settle;
+mod tied;
