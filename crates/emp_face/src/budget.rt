@@ -6,6 +6,7 @@ ghost use Rattle.std.specs.Prelude.{◌≡◌, ◌≢◌, ◌≤◌, ◌+◌};
 pub struct Spent;
 
 /// How many units of work may be taken, and how many were.
+#[derive(Drop)]
 pub struct Budget {
     pub limit: u64,
     pub used: u64,

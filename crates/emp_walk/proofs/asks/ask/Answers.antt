@@ -1,0 +1,16 @@
+use Rattle.std.proofs.Common.{subst}
+use Rattle.emp_dict.specs.Dicts.{dictionary_of}
+use Rattle.emp_face.specs.Budgets.{units_left}
+use Rattle.emp_walk.specs.Fits.{AskFits}
+use Rattle.emp_walk.proofs.Asking.{fix_gave, raise_gave}
+use Rattle.emp_walk.proofs.asks.ask.Goals as goal
+
+pub returns-in-Zero-clause-fits : goal.returns-in-Zero-clause-fits
+returns-in-Zero-clause-fits c =
+    let d = dictionary_of c.args.dict.now in
+    fix_gave c.args.system.now d (dictionary_of c.fix.new.dict) c.args.k (units_left c.args.budget.now) (units_left c.fix.new.budget) c.fix.result c.requires.at (subst (AskFits d c.args.k) c.in-Zero.is c.requires.asks) c.fix.ensures.step
+
+pub returns-in-Nonneg-clause-fits : goal.returns-in-Nonneg-clause-fits
+returns-in-Nonneg-clause-fits c =
+    let d = dictionary_of c.args.dict.now in
+    raise_gave c.args.system.now d (dictionary_of c.raise.new.dict) c.args.k (units_left c.args.budget.now) (units_left c.raise.new.budget) c.raise.result c.requires.at (subst (AskFits d c.args.k) c.in-Nonneg.is c.requires.asks) c.raise.ensures.step

@@ -1,0 +1,5 @@
+//! The search of a row system by branching on its pairs, with one kept dictionary for each open branch and no recursion.
+#![tactic(auto)]
+
+mod asks;
+mod next;
