@@ -1,11 +1,19 @@
 -- What comes next after a node's work.
-use Rattle.std.proofs.Common.{◌≡◌, ◌≢◌, ℕ, suc, ◌+◌, ◌-◌, ◌<◌, ◌≤◌, ◌⊎◌, inl, inr, ℤ, pos, negsuc, ◌-ℤ◌, ◌*ℤ◌, ◌≤ℤ◌, ◌<ℤ◌, Bool, true, false, cond, ◌&&◌, ◌||◌, not, List, [], ◌∷◌, length, get_or, drop, Option, Some, None, arith, refl, sym, ap, ap₂, subst, ◌∙◌}
+use Rattle.std.proofs.Common.{◌≡◌, ◌≢◌, ℕ, zero, suc, ◌+◌, ◌-◌, ◌<◌, ◌≤◌, ◌⊎◌, inl, inr, ℤ, pos, negsuc, ◌-ℤ◌, ◌*ℤ◌, ◌≤ℤ◌, ◌<ℤ◌, Bool, true, false, cond, ◌&&◌, ◌||◌, not, List, [], ◌∷◌, length, get_or, drop, Option, Some, None, arith, refl, sym, ap, ap₂, subst, ◌∙◌}
 use Rattle.std.proofs.lemmas.Bool.{and_parts, both_ways}
 use Rattle.std.proofs.lemmas.List.{drop_more, drop_all}
 use Rattle.std.proofs.lemmas.List.Elements.{All-get_or}
 use Rattle.std.proofs.lemmas.Int.{ints}
-use Rattle.emp_algebra.proofs.Ring.{var, ◌⊗◌, by_ring}
+use lib.IntN.{zero-*ℤ}
+use Rattle.std.specs.Option.{option_map}
+use Rattle.std.specs.declared.cmp.Ordering.{Ordering}
+use Rattle.std.specs.declared.cmp.Ordering.TheVariants.{Less, Equal, Greater}
+use Rattle.emp_algebra.proofs.Ring.{var, ◌⊖◌, ◌⊗◌, by_ring}
 use Rattle.emp_algebra.proofs.Order.{linear, mul_lt_right, mul_le_right}
+use Rattle.emp_algebra.proofs.Laws.{mul_pos}
+use Rattle.emp_num.specs.Orders.{IsOrder}
+use Rattle.emp_num.specs.FracSpec.{IsQuotient}
+use Rattle.emp_num.specs.declared.frac.Frac.{Frac}
 use Rattle.emp_line.specs.Pivot.{is_zero}
 use Rattle.emp_rows.specs.declared.system.Kind.TheVariants.{Zero}
 use Rattle.emp_rows.specs.declared.system.RowSystem.{RowSystem}
@@ -13,13 +21,16 @@ use Rattle.emp_rows.specs.Systems.{IsMember}
 use Rattle.emp_rows.specs.RowPoints.{pair}
 use Rattle.emp_dict.specs.declared.label.Label.TheVariants.{Quantity}
 use Rattle.emp_dict.specs.declared.label.Mark.TheVariants.{Fixed}
-use Rattle.emp_dict.specs.Dictionary.{Dictionary, column_label, mark_at, row_of, label_eq}
+use Rattle.emp_dict.specs.declared.dict.Dict.{Dict}
+use Rattle.emp_dict.specs.Dicts.{dictionary_of}
+use Rattle.emp_dict.specs.Dictionary.{Dictionary, IsSound, line_at, column_label, mark_at, row_of, label_eq}
 use Rattle.emp_dict.proofs.Labels.{label_eq-false}
 use Rattle.emp_step.specs.Steps.{mark_of_label}
 use Rattle.emp_step.specs.Levels.{IsLevel}
-use Rattle.emp_step.specs.Laws.{IsNumber}
+use Rattle.emp_step.specs.Laws.{IsNumber, HasObjective}
 use Rattle.emp_step.proofs.Labels.{row_found}
-use Rattle.emp_search.specs.Search.{Decision, is_above, above_by, above, both_above, still_by, still, is_broken, first_pair, split_or}
+use Rattle.emp_decide.proofs.Rows.{line_is}
+use Rattle.emp_search.specs.Search.{is_bounded, Decision, is_above, above_by, above, both_above, still_by, still, is_broken, first_pair, split_or}
 use Rattle.emp_search.proofs.Showing.{FirstAt, first_some}
 use Rattle.emp_walk.specs.declared.next.Next.{Next}
 use Rattle.emp_walk.specs.declared.next.Test.{Test}
@@ -96,3 +107,52 @@ split_same b d end (Some k) = refl
 pub split_next_fits : (s : RowSystem) (d : Dictionary) (t : Test) (end : Next) (o : Option ℕ) → IsAt s d → TestFree d t → NextFits s d end → o ≡ first_pair (passes d t) 1 s.pairs → NextFits s d (split_next end o)
 split_next_fits s d t end None a f h e = h
 split_next_fits s d t end (Some k) a f h e = split_fits s d t k a f (sym e)
+
+-- ---- the sign of a difference of two quotients
+above_is : (x : ℤ) → pos 0 <ℤ x → is_above x ≡ true
+above_is (pos zero) h = absurd (omega (arith, ints))
+above_is (pos (suc n)) h = refl
+above_is (negsuc n) h = absurd (omega (arith, ints))
+
+below_is : (x : ℤ) → x ≤ℤ pos 0 → is_above x ≡ false
+below_is (pos zero) h = refl
+below_is (pos (suc n)) h = absurd (omega (arith, ints))
+below_is (negsuc n) h = refl
+
+le_or_lt : (a b : ℤ) → (a ≤ℤ b) ⊎ (b <ℤ a)
+le_or_lt a b = grind (arith, ints)
+
+same_sign : (x p y q : ℤ) → pos 0 <ℤ p → pos 0 <ℤ q → x *ℤ p ≡ y *ℤ q → is_above x ≡ is_above y
+same_sign x p y q pp qp e = go (le_or_lt x (pos 0)) (le_or_lt y (pos 0))
+  where
+    wrong : (x p y q : ℤ) → pos 0 <ℤ p → pos 0 <ℤ q → x *ℤ p ≡ y *ℤ q → x ≤ℤ pos 0 → pos 0 <ℤ y → ⊥
+    wrong x p y q pp qp e h k =
+        let a : (x *ℤ p) ≤ℤ (pos 0 *ℤ p) = mul_le_right x (pos 0) p h (omega (arith, ints)) in
+        let b : (pos 0 *ℤ q) <ℤ (y *ℤ q) = mul_lt_right (pos 0) y q k qp in
+        omega (arith, linear, zero-*ℤ p, zero-*ℤ q)
+
+    go : (x ≤ℤ pos 0) ⊎ (pos 0 <ℤ x) → (y ≤ℤ pos 0) ⊎ (pos 0 <ℤ y) → is_above x ≡ is_above y
+    go (inl h) (inl k) = below_is x h ∙ sym (below_is y k)
+    go (inl h) (inr k) = absurd (wrong x p y q pp qp e h k)
+    go (inr h) (inl k) = absurd (wrong y q x p qp pp (sym e) k h)
+    go (inr h) (inr k) = above_is x h ∙ sym (above_is y k)
+
+-- in lowest terms or not, a quotient stands to another as it does
+pub quotients_stand : (a b : Frac) (m d n e : ℤ) → pos 0 <ℤ d → pos 0 <ℤ e → IsQuotient a m d → IsQuotient b n e → is_above (a.num *ℤ b.den -ℤ b.num *ℤ a.den) ≡ is_above (m *ℤ e -ℤ n *ℤ d)
+quotients_stand a b m d n e dp ep qa qb =
+    same_sign (a.num *ℤ b.den -ℤ b.num *ℤ a.den) (d *ℤ e) (m *ℤ e -ℤ n *ℤ d) (a.den *ℤ b.den) (mul_pos d e dp ep) (mul_pos a.den b.den a.positive b.positive)
+    (by_ring (a.num ∷ b.den ∷ b.num ∷ a.den ∷ d ∷ e ∷ []) ((var 0 ⊗ var 1 ⊖ var 2 ⊗ var 3) ⊗ (var 4 ⊗ var 5)) (var 0 ⊗ var 4 ⊗ (var 1 ⊗ var 5) ⊖ var 2 ⊗ var 5 ⊗ (var 3 ⊗ var 4)) refl
+    ∙ (ap₂ (λ x y. x *ℤ (b.den *ℤ e) -ℤ y *ℤ (a.den *ℤ d)) qa qb
+    ∙ by_ring (m ∷ a.den ∷ b.den ∷ e ∷ n ∷ d ∷ []) (var 0 ⊗ var 1 ⊗ (var 2 ⊗ var 3) ⊖ var 4 ⊗ var 2 ⊗ (var 1 ⊗ var 5)) ((var 0 ⊗ var 3 ⊖ var 4 ⊗ var 5) ⊗ (var 1 ⊗ var 2)) refl))
+
+-- what an order says of the difference
+pub order_above : (o : Ordering) (x y : ℤ) → IsOrder o x y → (o ≡ Greater → is_above (x -ℤ y) ≡ true) × (o ≢ Greater → is_above (x -ℤ y) ≡ false)
+order_above Less x y h = (λ z. absurd (cc), λ z. below_is (x -ℤ y) (omega (arith, linear)))
+order_above Equal x y h = (λ z. absurd (cc), λ z. below_is (x -ℤ y) (omega (arith, linear)))
+order_above Greater x y h = (λ z. above_is (x -ℤ y) (omega (arith, linear)), λ z. absurd (z refl))
+
+pub bounded_is : (best : Option Dict) (e : Dict) (d : Dictionary) (r : ℕ) (reached : Bool) (a b : Frac) → best ≡ Some e → HasObjective (dictionary_of e) → IsSound d → r < length d.rows → IsQuotient a (line_at (dictionary_of e) (length e.marks)).constant (line_at (dictionary_of e) (length e.marks)).denom → IsQuotient b (line_at d r).constant (line_at d r).denom → reached ≡ not (is_above (a.num *ℤ b.den -ℤ b.num *ℤ a.den)) → reached ≡ is_bounded (option_map dictionary_of best) d r
+bounded_is best e d r reached a b q t s h qa qb x =
+    let le = line_is (dictionary_of e) e.sound (length e.marks) t in
+    let ld = line_is d s r h in
+    x ∙ (ap not (quotients_stand a b (line_at (dictionary_of e) (length e.marks)).constant (line_at (dictionary_of e) (length e.marks)).denom (line_at d r).constant (line_at d r).denom le.positive ld.positive qa qb) ∙ sym (ap (λ o. is_bounded (option_map dictionary_of o) d r) q))

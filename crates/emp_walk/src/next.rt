@@ -1,10 +1,10 @@
 //! What comes next after the work of a node.
-ghost use Rattle.std.specs.Prelude.{◌≡◌, ◌<◌, length, pos};
+ghost use Rattle.std.specs.Prelude.{◌≡◌, ◌<◌, length, not, ◌-ℤ◌, ◌*ℤ◌};
 ghost use Rattle.std.specs.Option.{option_map};
 ghost use Rattle.emp_num.specs.FracSpec.{IsQuotient};
 ghost use Rattle.emp_dict.specs.Dictionary.{line_at};
 ghost use Rattle.emp_dict.specs.Dicts.{dictionary_of};
-ghost use Rattle.emp_search.specs.Search.{above, decided, first_pair, is_bounded, still};
+ghost use Rattle.emp_search.specs.Search.{above, decided, is_above, first_pair, is_bounded, still};
 ghost use Rattle.emp_walk.specs.Fits.{DoneFits, IsAt};
 ghost use Rattle.emp_walk.specs.Decisions.{BestFits, NextFits, TestFits, decision_of, passes, split_next};
 
@@ -42,8 +42,7 @@ pub enum Test {
 }
 
 /// Whether the quantity is above 0 at the dictionary's point.
-#[tactic(auto, using(emp_decide::proofs::Reading::found_below))]
-fn is_above(dict: &Dict, k: u32) -> bool
+fn stands_above(dict: &Dict, k: u32) -> bool
     ensures { result ≡ above (dictionary_of dict.now) k }
 {
     match dict.row_of(Label::Quantity(k)) {
@@ -53,7 +52,6 @@ fn is_above(dict: &Dict, k: u32) -> bool
 }
 
 /// Whether the quantity is 0 at the dictionary's point, and stays 0 as the column moves.
-#[tactic(auto, using(emp_decide::proofs::Reading::found_below))]
 fn is_still(dict: &Dict, column: usize, k: u32) -> bool
     requires { column < length (dictionary_of dict.now).columns }
     ensures { result ≡ still (dictionary_of dict.now) column k }
@@ -70,7 +68,7 @@ fn passes(dict: &Dict, test: Test, pair: (u32, u32)) -> bool
     ensures { result ≡ passes (dictionary_of dict.now) test pair }
 {
     match test {
-        Test::Above => is_above(dict, pair.0) && is_above(dict, pair.1),
+        Test::Above => stands_above(dict, pair.0) && stands_above(dict, pair.1),
         Test::Broken(column) => {
             !(is_still(dict, column, pair.0) || is_still(dict, column, pair.1))
         }
@@ -91,12 +89,23 @@ fn first_pair(system: &RowSystem, dict: &Dict, test: Test) -> Option<u32>
 }
 
 /// The value of a row's label at the dictionary's point.
-#[tactic(auto, using(emp_decide::proofs::Reading::denom_positive))]
 fn value(dict: &Dict, row: usize) -> Frac
     requires { row < length (dictionary_of dict.now).rows }
     ensures { IsQuotient result (line_at (dictionary_of dict.now) row).constant (line_at (dictionary_of dict.now) row).denom }
 {
     Frac::reduced(dict.constant(row), dict.denom(row))
+}
+
+/// Whether the first fraction is at most the second.
+#[tactic(auto, using(crate::proofs::Deciding::order_above))]
+fn reaches(a: Frac, b: Frac) -> bool
+    ensures { result ≡ not (is_above (a.num *ℤ b.den -ℤ b.num *ℤ a.den)) }
+{
+    match Frac::cmp(a, b) {
+        Ordering::Less => true,
+        Ordering::Equal => true,
+        Ordering::Greater => false,
+    }
 }
 
 /// Whether the objective, in this row of the dictionary, is at least what it is at the incumbent.
@@ -108,7 +117,7 @@ fn is_bounded(best: &Option<Dict>, dict: &Dict, row: usize) -> bool
     match best {
         Some(incumbent) => {
             let least = value(incumbent, incumbent.quantities());
-            Frac::cmp(least, value(dict, row)) != Ordering::Greater
+            reaches(least, value(dict, row))
         }
         None => false,
     }
