@@ -1,2 +1,4 @@
 pub mod Asking
 pub mod Deciding
+pub mod Fuel
+pub mod Opening

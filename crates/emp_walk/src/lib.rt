@@ -3,3 +3,4 @@
 
 mod asks;
 mod next;
+mod course;
