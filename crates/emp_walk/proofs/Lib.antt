@@ -2,3 +2,4 @@ pub mod Asking
 pub mod Deciding
 pub mod Fuel
 pub mod Opening
+pub mod Settling

@@ -1,3 +1,5 @@
 pub mod Fits
 pub mod Decisions
 pub mod Courses
+pub mod Runs
+pub mod Searches

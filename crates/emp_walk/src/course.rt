@@ -50,12 +50,6 @@ pub enum WalkFault {
     NoMemory,
 }
 
-impl From<NoMemory> for WalkFault {
-    fn from(_error: NoMemory) -> WalkFault {
-        WalkFault::NoMemory
-    }
-}
-
 /// Where a search stands before a node is opened.
 #[derive(Drop)]
 pub struct Course {
@@ -79,7 +73,7 @@ impl Course {
     ghost use Rattle.emp_walk.specs.Decisions.{NextFits, decision_of};
 
     /// The course of a search before its root is opened.
-    fn start(alloc: Global, system: &RowSystem, limit: u64) -> Result<Course, NoMemory>
+    pub fn start(alloc: Global, system: &RowSystem, limit: u64) -> Result<Course, NoMemory>
         ensures { IfOk result (IsStart system.now limit) }
     {
         Ok(Course {
@@ -200,12 +194,15 @@ impl Course {
     }
 
     /// Opens a node, and does what comes next.
-    fn turn(&mut self, alloc: Global, system: &RowSystem) -> Result<Option<End>, WalkFault>
+    pub fn turn(&mut self, alloc: Global, system: &RowSystem) -> Result<Option<End>, WalkFault>
         requires { CourseFits system.now self.old }
         ensures { TurnGives system.now self.old self.new result }
     {
         let outcome = self.open(system)?;
         let next = decide(system, &self.best, &self.dict, outcome);
-        Ok(self.settle(alloc, system, next)?)
+        match self.settle(alloc, system, next) {
+            Ok(end) => Ok(end),
+            Err(NoMemory) => Err(WalkFault::NoMemory),
+        }
     }
 }

@@ -4,3 +4,4 @@
 mod asks;
 mod next;
 mod course;
+pub mod search;
