@@ -3,3 +3,4 @@ pub mod Deciding
 pub mod Fuel
 pub mod Opening
 pub mod Settling
+pub mod Starting
