@@ -1,7 +1,6 @@
 -- What is so after a step.
-use Rattle.std.proofs.Common.{◌≡◌, ◌≢◌, ℕ, ◌+◌, ◌-◌, ◌<◌, ◌≤◌, List, [], ◌∷◌, length, get_or, set, drop, Some, Result, Ok, Err, IfOk, arith, refl, sym, ap, subst, ◌∙◌}
+use Rattle.std.proofs.Common.{◌≡◌, ◌≢◌, ℕ, ◌+◌, ◌-◌, ◌<◌, ◌≤◌, List, [], ◌∷◌, length, get_or, drop, Result, Ok, Err, IfOk, arith, refl, sym, ap, subst, ◌∙◌}
 use Rattle.std.proofs.lemmas.List.{length-set, get_or-set_other, drop_more, drop_all}
-use Rattle.emp_rows.specs.declared.affine.Affine.{Affine}
 use Rattle.emp_rows.specs.declared.system.Kind.{Kind}
 use Rattle.emp_rows.specs.declared.system.Kind.TheVariants.{Zero, Nonneg}
 use Rattle.emp_rows.specs.declared.system.RowSystem.{RowSystem}
@@ -13,12 +12,11 @@ use Rattle.emp_step.specs.declared.outcome.Outcome.{Outcome}
 use Rattle.emp_step.specs.declared.outcome.Outcome.TheVariants.{Held, Empty, Best, Ray}
 use Rattle.emp_step.specs.declared.outcome.StepFault.{StepFault}
 use Rattle.emp_step.specs.declared.outcome.StepFault.TheVariants.{Wide, Spent, NoMemory}
-use Rattle.emp_step.specs.Steps.{StepGives, End, ended, too_wide, spent, Stepped, stepped, mark_by, mark_of_label, raised, fixed, bested}
+use Rattle.emp_step.specs.Steps.{StepGives, End, ended, too_wide, spent, Stepped, stepped, mark_by, raised, fixed, bested}
 use Rattle.emp_step.specs.Laws.{IsNumber, HasObjective, LeavesLevel, Keeps}
 use Rattle.emp_step.proofs.Marks.{fixed_index}
 use Rattle.emp_step.proofs.Whole.{raise_level, fix_level, best_level, steps_mark, raise_keeps_all, fix_keeps_all, best_keeps_all}
 use Rattle.emp_turns.specs.Choice.{MayMove}
-use Rattle.emp_decide.proofs.Decides.{has_objective}
 use Rattle.emp_search.specs.Search.{ask_of, asks_from, and_then, asked}
 use Rattle.emp_search.proofs.Outcomes.{HoldsOr, LeastOr, EndSays, rays, raise_says, fix_says, best_says}
 use Rattle.emp_walk.specs.Fits.{IsAt, AskFits, OutcomeFits, DoneFits, AskedFits}

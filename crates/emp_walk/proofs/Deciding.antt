@@ -18,7 +18,6 @@ use Rattle.emp_line.specs.Pivot.{is_zero}
 use Rattle.emp_rows.specs.declared.system.Kind.TheVariants.{Zero}
 use Rattle.emp_rows.specs.declared.system.RowSystem.{RowSystem}
 use Rattle.emp_rows.specs.Systems.{IsMember}
-use Rattle.emp_rows.specs.RowPoints.{pair}
 use Rattle.emp_dict.specs.declared.label.Label.TheVariants.{Quantity}
 use Rattle.emp_dict.specs.declared.label.Mark.TheVariants.{Fixed}
 use Rattle.emp_dict.specs.declared.dict.Dict.{Dict}
@@ -30,7 +29,7 @@ use Rattle.emp_step.specs.Levels.{IsLevel}
 use Rattle.emp_step.specs.Laws.{IsNumber, HasObjective}
 use Rattle.emp_step.proofs.Labels.{row_found}
 use Rattle.emp_decide.proofs.Rows.{line_is}
-use Rattle.emp_search.specs.Search.{is_bounded, Decision, is_above, above_by, above, both_above, still_by, still, is_broken, first_pair, split_or}
+use Rattle.emp_search.specs.Search.{is_bounded, is_above, above_by, above, still_by, still, first_pair, split_or}
 use Rattle.emp_search.proofs.Showing.{FirstAt, first_some}
 use Rattle.emp_walk.specs.declared.next.Next.{Next}
 use Rattle.emp_walk.specs.declared.next.Test.{Test}

@@ -1,5 +1,5 @@
 -- A node is opened, and what the search comes to.
-use Rattle.std.proofs.Common.{◌≡◌, ◌≢◌, ℕ, zero, suc, ◌+◌, ◌-◌, ◌<◌, ◌≤◌, List, [], ◌∷◌, ◌++◌, Option, Some, None, arith, refl, sym, ap, subst, ◌∙◌}
+use Rattle.std.proofs.Common.{◌≡◌, ℕ, suc, ◌+◌, ◌-◌, ◌≤◌, List, [], ◌∷◌, ◌++◌, arith, refl, sym, ap, ◌∙◌}
 use Rattle.std.specs.Option.{option_map}
 use Rattle.emp_rows.specs.declared.system.RowSystem.{RowSystem}
 use Rattle.emp_dict.specs.declared.dict.Dict.{Dict}
@@ -9,7 +9,7 @@ use Rattle.emp_step.specs.declared.outcome.Outcome.{Outcome}
 use Rattle.emp_step.specs.Steps.{ended, too_wide, spent, stepped}
 use Rattle.emp_face.specs.declared.budget.Budget.{Budget}
 use Rattle.emp_face.specs.Budgets.{units_left}
-use Rattle.emp_search.specs.Search.{Ask, worked, decided, Finding, State, Searched, closed, found, wide_at, out_of_units, by_decision, by_end, opened, pivots_of}
+use Rattle.emp_search.specs.Search.{Ask, worked, decided, Finding, State, Searched, found, wide_at, out_of_units, by_decision, by_end, opened, pivots_of}
 use Rattle.emp_walk.specs.declared.course.Open.{Open}
 use Rattle.emp_walk.specs.declared.course.Course.{Course}
 use Rattle.emp_walk.specs.Fits.{DoneFits, asks_of}

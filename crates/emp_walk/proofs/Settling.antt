@@ -1,5 +1,5 @@
 -- What comes next after the work of a node is done, and the search goes on or ends.
-use Rattle.std.proofs.Common.{◌≡◌, ◌≢◌, ℕ, ◌+◌, ◌-◌, ◌<◌, ◌≤◌, List, [], ◌∷◌, ◌++◌, length, Option, Some, None, arith, refl, sym, ap, subst, ◌∙◌}
+use Rattle.std.proofs.Common.{◌≡◌, ℕ, ◌≤◌, List, [], ◌∷◌, ◌++◌, Option, Some, None, arith, refl, sym, ap, subst, ◌∙◌}
 use Rattle.std.specs.Option.{option_map}
 use Rattle.emp_rows.specs.declared.system.Kind.TheVariants.{Zero}
 use Rattle.emp_rows.specs.declared.system.RowSystem.{RowSystem}
@@ -12,13 +12,10 @@ use Rattle.emp_dict.specs.Dicts.{dictionary_of}
 use Rattle.emp_step.specs.Laws.{HasObjective}
 use Rattle.emp_face.specs.declared.budget.Budget.{Budget}
 use Rattle.emp_face.specs.Budgets.{units_left}
-use Rattle.emp_search.specs.Search.{Ask, fixes, leaf, branch, finding, Finding, State, Searched, closed, found, wide_at, out_of_units, writes, then_second, by_decision}
-use Rattle.emp_walk.specs.declared.asks.Asks.{Asks}
-use Rattle.emp_walk.specs.declared.asks.Asks.TheVariants.{Child}
+use Rattle.emp_search.specs.Search.{Ask, fixes, leaf, branch, finding, Finding, State, Searched, closed, found, wide_at, out_of_units, writes, then_second}
 use Rattle.emp_walk.specs.declared.next.Next.{Next}
 use Rattle.emp_walk.specs.declared.course.Open.{Open}
 use Rattle.emp_walk.specs.declared.course.End.{End}
-use Rattle.emp_walk.specs.declared.course.End.TheVariants.{Closed}
 use Rattle.emp_walk.specs.declared.course.Course.{Course}
 use Rattle.emp_walk.specs.Fits.{IsAt, AskFits, AsksFit, asks_of}
 use Rattle.emp_walk.specs.Decisions.{BestFits, SplitFits, decision_of}

@@ -1,18 +1,15 @@
 -- Before the root is opened the whole search is still to come.
-use Rattle.std.proofs.Common.{◌≡◌, ℕ, zero, suc, ◌-◌, ◌≤◌, List, [], length, get_or, replicate, Option, None, arith, refl, sym, ap, subst, ◌∙◌}
+use Rattle.std.proofs.Common.{◌≡◌, ℕ, zero, suc, ◌-◌, List, [], length, get_or, replicate, None, arith, refl, sym, ap, subst, ◌∙◌}
 use Rattle.std.specs.Option.{option_map}
 use Rattle.emp_rows.specs.declared.system.RowSystem.{RowSystem}
-use Rattle.emp_cert.specs.declared.tree.Node.{Node}
 use Rattle.emp_cert.specs.Nodes.{AreTrees}
 use Rattle.emp_cert.proofs.Forests.{whole_tree}
-use Rattle.emp_dict.specs.declared.dict.Dict.{Dict}
 use Rattle.emp_dict.specs.declared.label.Mark.TheVariants.{Unasked}
 use Rattle.emp_dict.specs.Dictionary.{mark_at}
 use Rattle.emp_dict.specs.Dicts.{dictionary_of}
-use Rattle.emp_face.specs.declared.budget.Budget.{Budget}
 use Rattle.emp_face.specs.Budgets.{units_left}
 use Rattle.emp_decide.specs.Laws.{started_of}
-use Rattle.emp_search.specs.Search.{State, Searched, closed, found, wide_at, out_of_units, first_state, searched, search_of}
+use Rattle.emp_search.specs.Search.{State, closed, first_state, search_of}
 use Rattle.emp_search.specs.Shown.{SearchShows}
 use Rattle.emp_search.specs.Nodes.{IsNode}
 use Rattle.emp_search.proofs.Rooted.{start_node, searches_show}
@@ -24,8 +21,12 @@ use Rattle.emp_walk.specs.declared.course.End.TheVariants.{Closed, Point, Ray}
 use Rattle.emp_walk.specs.declared.course.Course.{Course}
 use Rattle.emp_walk.specs.Fits.{IsAt, AsksFit, asks_of}
 use Rattle.emp_walk.specs.Decisions.{BestFits}
-use Rattle.emp_walk.specs.Courses.{run_of, resumed, state_of, pending, ending_of, IsStart, StackFits, CourseFits}
-use Rattle.emp_walk.specs.Runs.{EndWhole}
+use Rattle.emp_walk.specs.declared.course.WalkFault.{WalkFault}
+use Rattle.emp_walk.specs.declared.search.Answer.{Answer}
+use Rattle.emp_cert.specs.declared.cert.Verdict.{Verdict}
+use Rattle.emp_walk.specs.Searches.{AnswerGives, VerdictGives}
+use Rattle.emp_walk.specs.Courses.{FaultGives, run_of, resumed, state_of, pending, ending_of, IsStart, StackFits, CourseFits}
+use Rattle.emp_walk.specs.Runs.{EndWhole, Ended}
 
 run_is : (s : RowSystem) (limit : ℕ) → run_of s limit (asks_of s Root) (started_of s) (first_state limit) ≡ search_of s limit
 unfolding run_of
@@ -71,3 +72,20 @@ pub end_whole : (s : RowSystem) (limit : ℕ) (c : Course) (e : End) → search_
 end_whole s limit c Closed h = closed_whole s limit (state_of c) h
 end_whole s limit c Point h = tt
 end_whole s limit c (Ray j up) h = tt
+
+-- ---- the whole search
+pub fault_whole : (s : RowSystem) (units : ℕ) (c : Course) (f : WalkFault) → IsStart s units c → FaultGives (pending s c) c.budget.limit f → FaultGives (search_of s units) units f
+fault_whole s units c f h g = subst (λ n. FaultGives (search_of s units) n f) h.limit (subst (λ r. FaultGives r c.budget.limit f) (start_pending s units c h) g)
+
+pub answer_whole : (s : RowSystem) (units : ℕ) (c new : Course) (e : End) (v : Verdict) (work nodes : ℕ) → IsStart s units c → Ended s c new e → VerdictGives (ending_of new e) (state_of new) v → work ≡ new.budget.used → nodes ≡ new.nodes → (a : Answer) → a.verdict ≡ v → a.work ≡ work → a.nodes ≡ nodes → AnswerGives (search_of s units) units a
+answer_whole s units c new e v work nodes h r g w n a av aw an =
+    let same : search_of s units ≡ ending_of new e = sym (start_pending s units c h) ∙ r.same in
+    let kept = new.budget.kept in
+    let l = r.limit in
+    let m = h.limit in
+    record {
+      state = state_of new;
+      verdict = subst (λ x. VerdictGives (search_of s units) (state_of new) x) (sym av) (subst (λ x. VerdictGives x (state_of new) v) (sym same) g);
+      work = omega arith;
+      nodes = an ∙ n;
+    }

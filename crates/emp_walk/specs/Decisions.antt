@@ -1,5 +1,5 @@
 -- What comes next after a node's work, as decisions of the search.
-use Rattle.std.specs.Prelude.{◌≡◌, ℕ, ◌<◌, ◌≤◌, Bool, length, Option, Some, None}
+use Rattle.std.specs.Prelude.{ℕ, ◌<◌, ◌≤◌, Bool, length, Option, Some, None}
 use Rattle.emp_rows.specs.declared.system.Kind.TheVariants.{Zero}
 use Rattle.emp_rows.specs.declared.system.RowSystem.{RowSystem}
 use Rattle.emp_rows.specs.RowPoints.{pair}

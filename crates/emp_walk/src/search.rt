@@ -81,7 +81,10 @@ pub fn search(alloc: Global, system: &RowSystem, work: u64) -> Result<Answer, Wa
     let Ok(mut course) = Course::start(alloc, system, work) else {
         return Err(WalkFault::NoMemory);
     };
-    let end = run(&mut course, alloc, system)?;
+    let end = match run(&mut course, alloc, system) {
+        Ok(end) => end,
+        Err(fault) => return Err(fault),
+    };
     let (work, nodes) = (course.budget.used, course.nodes);
     match verdict(course, alloc, end) {
         Ok(verdict) => Ok(Answer {

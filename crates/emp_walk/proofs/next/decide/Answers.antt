@@ -1,4 +1,4 @@
-use Rattle.std.proofs.Common.{◌∙◌, arith, subst, sym}
+use Rattle.std.proofs.Common.{arith, subst, sym}
 use Rattle.emp_dict.specs.Dicts.{dictionary_of}
 use Rattle.emp_walk.specs.Fits.{OutcomeFits}
 use Rattle.emp_walk.specs.Decisions.{NextFits}

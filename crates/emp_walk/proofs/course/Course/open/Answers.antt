@@ -1,6 +1,6 @@
 use Rattle.std.proofs.Common.{◌≡◌, ap, refl, subst, arith, ◌∙◌, Err, Fits, w64, rules}
 use Rattle.emp_dict.specs.Dicts.{dictionary_of}
-use Rattle.emp_step.specs.Steps.{StepGives, stepped, too_wide, spent}
+use Rattle.emp_step.specs.Steps.{StepGives, stepped, too_wide}
 use Rattle.emp_face.specs.Budgets.{units_left}
 use Rattle.emp_search.specs.Search.{worked}
 use Rattle.emp_walk.specs.Fits.{asks_of}

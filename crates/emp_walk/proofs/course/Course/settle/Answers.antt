@@ -1,4 +1,4 @@
-use Rattle.std.proofs.Common.{ap, refl, subst, Some}
+use Rattle.std.proofs.Common.{ap, refl, subst}
 use Rattle.std.specs.Option.{option_map}
 use Rattle.emp_cert.specs.declared.tree.Node.TheVariants.{Farkas}
 use Rattle.emp_dict.specs.Dicts.{dictionary_of}
