@@ -4,3 +4,4 @@ pub mod Fuel
 pub mod Opening
 pub mod Settling
 pub mod Starting
+pub mod Leaves

@@ -70,7 +70,7 @@ module _ (s : RowSystem) (c : Course) (taken : Budget) (used : taken.used ≡ c.
             ∙ (ap (λ n. resumed (run_of s c.budget.limit) c.stack (by_decision (run_of s c.budget.limit) s (dictionary_of e) (record { written = c.written; best = option_map dictionary_of c.best; left = units_left later; nodes = n }) (decided s (option_map dictionary_of c.best) (dictionary_of e) o))) more
             ∙ ap (λ m. resumed (run_of s m) c.stack (by_decision (run_of s m) s (dictionary_of e) (record { written = c.written; best = option_map dictionary_of c.best; left = units_left later; nodes = c.nodes + 1 }) (decided s (option_map dictionary_of c.best) (dictionary_of e) o))) same));
         done = done;
-        place = record { stack = fits.place.stack; best = fits.place.best; nodes = omega arith };
+        place = record { stack = fits.place.stack; best = fits.place.best; written = fits.place.written; nodes = omega arith };
         less = omega arith;
         limit = l ∙ limit;
       }

@@ -1,11 +1,13 @@
 -- What comes next after the work of a node is done, and the search goes on or ends.
-use Rattle.std.proofs.Common.{◌≡◌, ℕ, ◌≤◌, List, [], ◌∷◌, ◌++◌, Option, Some, None, arith, refl, sym, ap, subst, ◌∙◌}
+use Rattle.std.proofs.Common.{◌≡◌, ℕ, ◌≤◌, List, [], ◌∷◌, ◌++◌, length, Option, Some, None, arith, refl, sym, ap, subst, ◌∙◌}
 use Rattle.std.specs.Option.{option_map}
 use Rattle.emp_rows.specs.declared.system.Kind.TheVariants.{Zero}
 use Rattle.emp_rows.specs.declared.system.RowSystem.{RowSystem}
 use Rattle.emp_rows.specs.RowPoints.{pair}
 use Rattle.emp_cert.specs.declared.tree.Node.{Node}
 use Rattle.emp_cert.specs.declared.tree.Node.TheVariants.{Branch}
+use Rattle.std.proofs.lemmas.List.Elements.{All-push}
+use Rattle.emp_cert.specs.Certs.{NodeFits}
 use Rattle.emp_dict.specs.declared.dict.Dict.{Dict}
 use Rattle.emp_dict.specs.Dictionary.{Dictionary}
 use Rattle.emp_dict.specs.Dicts.{dictionary_of}
@@ -19,7 +21,7 @@ use Rattle.emp_walk.specs.declared.course.End.{End}
 use Rattle.emp_walk.specs.declared.course.Course.{Course}
 use Rattle.emp_walk.specs.Fits.{IsAt, AskFits, AsksFit, asks_of}
 use Rattle.emp_walk.specs.Decisions.{BestFits, SplitFits, decision_of}
-use Rattle.emp_walk.specs.Courses.{run_of, second_of, resumed, state_of, pending, decided_at, closed_at, ending_of, OpenFits, StackFits, PlaceFits, CourseFits, EndFits, Popped, CloseGives, wrote, IsKept, IsSplit, GoesOn, Finishes, Goes}
+use Rattle.emp_walk.specs.Courses.{run_of, second_of, resumed, state_of, pending, decided_at, closed_at, ending_of, OpenFits, StackFits, PlaceFits, CourseFits, EndFits, WrittenFit, LeafFits, Popped, CloseGives, wrote, IsKept, IsSplit, GoesOn, Finishes, Goes}
 use Rattle.emp_walk.proofs.Opening.{resumed_push, resumed_found}
 
 -- ---- the open branches
@@ -59,7 +61,7 @@ popped_fits s old new h p =
     record {
       at = k.1.at;
       asks = subst (AsksFit (dictionary_of new.dict)) (sym p.asks) k.1.second;
-      place = record { stack = k.0; best = subst BestFits (sym p.best) h.best; nodes = nodes_same old new p.nodes p.budget h.nodes };
+      place = record { stack = k.0; best = subst BestFits (sym p.best) h.best; written = subst (WrittenFit s) (sym p.written) h.written; nodes = nodes_same old new p.nodes p.budget h.nodes };
     }
 
 pub closing : (s : RowSystem) (old new : Course) (e : Option End) → PlaceFits s old → CloseGives old new e → Goes s (closed_at s old) new e
@@ -67,12 +69,21 @@ closing s old new None h p = record { same = popped_same s old new p; fits = pop
 closing s old new (Some e) h p = record {
   same = ap (λ bs. resumed (run_of s old.budget.limit) bs (closed (state_of old))) p.1 ∙ (ap (λ (c : Course). closed (state_of c)) (sym p.2) ∙ ap (ending_of new) (sym p.0));
   fits = subst (EndFits new) (sym p.0) tt;
+  written = subst (λ (c : Course). WrittenFit s c.written) (sym p.2) h.written;
 }
 
 -- ---- leaves
-pub leaf_goes : (s : RowSystem) (old mid new : Course) (n : Node) (x : Next) (e : Option End) → PlaceFits s old → decision_of (option_map dictionary_of old.best) (dictionary_of old.dict) x ≡ leaf n (option_map dictionary_of old.best) → mid ≡ wrote old n → CloseGives mid new e → Goes s (decided_at s old (decision_of (option_map dictionary_of old.best) (dictionary_of old.dict) x)) new e
-leaf_goes s old mid new n x e h q w g =
-    subst (λ r. Goes s r new e) (sym (ap (decided_at s old) q)) (closing s (wrote old n) new e (record { stack = h.stack; best = h.best; nodes = h.nodes }) (subst (λ m. CloseGives m new e) w g))
+wrote_fits : (s : RowSystem) (c : Course) (n : Node) → IsAt s (dictionary_of c.dict) → PlaceFits s c → LeafFits (dictionary_of c.dict) n → PlaceFits s (wrote c n)
+wrote_fits s c n a h f = record {
+  stack = h.stack;
+  best = h.best;
+  written = All-push (NodeFits (length s.pairs) (length s.quantities)) c.written n h.written (subst (λ q. NodeFits (length s.pairs) q n) a.dictionary.marks (f (length s.pairs)));
+  nodes = h.nodes;
+}
+
+pub leaf_goes : (s : RowSystem) (old mid new : Course) (n : Node) (x : Next) (e : Option End) → IsAt s (dictionary_of old.dict) → PlaceFits s old → LeafFits (dictionary_of old.dict) n → decision_of (option_map dictionary_of old.best) (dictionary_of old.dict) x ≡ leaf n (option_map dictionary_of old.best) → mid ≡ wrote old n → CloseGives mid new e → Goes s (decided_at s old (decision_of (option_map dictionary_of old.best) (dictionary_of old.dict) x)) new e
+leaf_goes s old mid new n x e a h f q w g =
+    subst (λ r. Goes s r new e) (sym (ap (decided_at s old) q)) (closing s (wrote old n) new e (wrote_fits s old n a h f) (subst (λ m. CloseGives m new e) w g))
 
 best_kept : (b : Option Dict) (d : Dictionary) → option_map dictionary_of b ≡ Some d → HasObjective d → BestFits b
 best_kept None d e h = absurd (cc)
@@ -87,12 +98,12 @@ kept_same s c kept d k q =
     ∙ ap (λ (u : Budget). resumed (run_of s u.limit) c.stack (closed (record { written = c.written; best = Some d; left = units_left u; nodes = c.nodes }))) k.budget)))
 
 kept_fits : (s : RowSystem) (c kept : Course) → PlaceFits s c → HasObjective (dictionary_of c.dict) → IsKept c kept → PlaceFits s kept
-kept_fits s c kept h o k = record { stack = subst (StackFits s) (sym k.stack) h.stack; best = best_kept kept.best (dictionary_of c.dict) k.best o; nodes = nodes_same c kept k.nodes k.budget h.nodes }
+kept_fits s c kept h o k = record { stack = subst (StackFits s) (sym k.stack) h.stack; best = best_kept kept.best (dictionary_of c.dict) k.best o; written = subst (WrittenFit s) (sym k.written) h.written; nodes = nodes_same c kept k.nodes k.budget h.nodes }
 
-pub better_goes : (s : RowSystem) (old mid kept new : Course) (n : Node) (x : Next) (e : Option End) → PlaceFits s old → HasObjective (dictionary_of old.dict) → decision_of (option_map dictionary_of old.best) (dictionary_of old.dict) x ≡ leaf n (Some (dictionary_of old.dict)) → mid ≡ wrote old n → IsKept mid kept → CloseGives kept new e → Goes s (decided_at s old (decision_of (option_map dictionary_of old.best) (dictionary_of old.dict) x)) new e
-better_goes s old mid kept new n x e h o q w k g =
+pub better_goes : (s : RowSystem) (old mid kept new : Course) (n : Node) (x : Next) (e : Option End) → IsAt s (dictionary_of old.dict) → PlaceFits s old → LeafFits (dictionary_of old.dict) n → HasObjective (dictionary_of old.dict) → decision_of (option_map dictionary_of old.best) (dictionary_of old.dict) x ≡ leaf n (Some (dictionary_of old.dict)) → mid ≡ wrote old n → IsKept mid kept → CloseGives kept new e → Goes s (decided_at s old (decision_of (option_map dictionary_of old.best) (dictionary_of old.dict) x)) new e
+better_goes s old mid kept new n x e a h f o q w k g =
     let k' : IsKept (wrote old n) kept = subst (λ m. IsKept m kept) w k in
-    let fits : PlaceFits s kept = kept_fits s (wrote old n) kept (record { stack = h.stack; best = h.best; nodes = h.nodes }) o k' in
+    let fits : PlaceFits s kept = kept_fits s (wrote old n) kept (wrote_fits s old n a h f) o k' in
     subst (λ r. Goes s r new e) (kept_same s (wrote old n) kept (dictionary_of old.dict) k' refl ∙ sym (ap (decided_at s old) q)) (closing s kept new e fits g)
 
 -- ---- a pair is split
@@ -127,11 +138,12 @@ split_goes s k old new x a h f q p = record {
     place = record {
       stack = subst (StackFits s) (sym p.stack) (stack_more s old.stack (record { dict = p.kept; second = (pair s k).1 }) h.stack (record { at = subst (IsAt s) (sym p.same) a; second = subst (λ y. AskFits y (pair s k).1 Zero) (sym p.same) f.second }));
       best = subst BestFits (sym p.best) h.best;
+      written = subst (WrittenFit s) (sym p.written) (All-push (NodeFits (length s.pairs) (length s.quantities)) old.written (Branch k) h.written (f.above, f.within));
       nodes = nodes_same old new p.nodes p.budget h.nodes;
     };
   };
 }
 
 -- ---- the search ends
-pub found_goes : (s : RowSystem) (c : Course) (f : Finding) (x : Next) (e : End) → decision_of (option_map dictionary_of c.best) (dictionary_of c.dict) x ≡ finding f → found f (state_of c) ≡ ending_of c e → EndFits c e → Finishes (decided_at s c (decision_of (option_map dictionary_of c.best) (dictionary_of c.dict) x)) c e
-found_goes s c f x e q r h = record { same = ap (decided_at s c) q ∙ (resumed_found (run_of s c.budget.limit) c.stack f (state_of c) ∙ r); fits = h }
+pub found_goes : (s : RowSystem) (c : Course) (f : Finding) (x : Next) (e : End) → decision_of (option_map dictionary_of c.best) (dictionary_of c.dict) x ≡ finding f → found f (state_of c) ≡ ending_of c e → EndFits c e → PlaceFits s c → Finishes s (decided_at s c (decision_of (option_map dictionary_of c.best) (dictionary_of c.dict) x)) c e
+found_goes s c f x e q r h p = record { same = ap (decided_at s c) q ∙ (resumed_found (run_of s c.budget.limit) c.stack f (state_of c) ∙ r); fits = h; written = p.written }

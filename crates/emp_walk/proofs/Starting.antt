@@ -2,6 +2,8 @@
 use Rattle.std.proofs.Common.{◌≡◌, ℕ, zero, suc, ◌-◌, List, [], length, get_or, replicate, None, arith, refl, sym, ap, subst, ◌∙◌}
 use Rattle.std.specs.Option.{option_map}
 use Rattle.emp_rows.specs.declared.system.RowSystem.{RowSystem}
+use Rattle.std.proofs.lemmas.List.Elements.{All-nil}
+use Rattle.emp_cert.specs.Certs.{NodeFits}
 use Rattle.emp_cert.specs.Nodes.{AreTrees}
 use Rattle.emp_cert.proofs.Forests.{whole_tree}
 use Rattle.emp_dict.specs.declared.label.Mark.TheVariants.{Unasked}
@@ -25,7 +27,7 @@ use Rattle.emp_walk.specs.declared.course.WalkFault.{WalkFault}
 use Rattle.emp_walk.specs.declared.search.Answer.{Answer}
 use Rattle.emp_cert.specs.declared.cert.Verdict.{Verdict}
 use Rattle.emp_walk.specs.Searches.{AnswerGives, VerdictGives}
-use Rattle.emp_walk.specs.Courses.{FaultGives, run_of, resumed, state_of, pending, ending_of, IsStart, StackFits, CourseFits}
+use Rattle.emp_walk.specs.Courses.{FaultGives, WrittenFit, run_of, resumed, state_of, pending, ending_of, IsStart, StackFits, CourseFits}
 use Rattle.emp_walk.specs.Runs.{EndWhole, Ended}
 
 run_is : (s : RowSystem) (limit : ℕ) → run_of s limit (asks_of s Root) (started_of s) (first_state limit) ≡ search_of s limit
@@ -54,7 +56,7 @@ start_fits s limit c h =
     record {
       at = subst (IsAt s) (sym h.dictionary) (record { dictionary = n.dictionary; level = n.level });
       asks = subst (AsksFit (dictionary_of c.dict)) (sym h.asks) (λ q. ap (λ d. mark_at d q) h.dictionary ∙ unasked (length s.quantities) (q - 1));
-      place = record { stack = subst (StackFits s) (sym h.stack) tt; best = subst BestFits (sym h.best) tt; nodes = let z = h.nodes in omega arith };
+      place = record { stack = subst (StackFits s) (sym h.stack) tt; best = subst BestFits (sym h.best) tt; written = subst (WrittenFit s) (sym h.written) (All-nil (NodeFits (length s.pairs) (length s.quantities))); nodes = let z = h.nodes in omega arith };
     }
   where
     unasked : (n i : ℕ) → get_or (replicate n Unasked) i Unasked ≡ Unasked

@@ -1,11 +1,13 @@
 -- Where a search stands, and what it still comes to.
 use Rattle.std.specs.Prelude.{◌≡◌, ℕ, ◌<◌, ◌≤◌, List, [], ◌∷◌, ◌++◌, length, Option, Some, None, Result, Ok, Err}
 use Rattle.std.specs.Option.{option_map}
+use Rattle.std.specs.List.{All}
 use Rattle.emp_rows.specs.declared.system.Kind.TheVariants.{Zero}
 use Rattle.emp_rows.specs.declared.system.RowSystem.{RowSystem}
 use Rattle.emp_rows.specs.RowPoints.{pair}
 use Rattle.emp_cert.specs.declared.tree.Node.{Node}
 use Rattle.emp_cert.specs.declared.tree.Node.TheVariants.{Branch}
+use Rattle.emp_cert.specs.Certs.{NodeFits}
 use Rattle.emp_dict.specs.declared.dict.Dict.{Dict}
 use Rattle.emp_dict.specs.Dictionary.{Dictionary}
 use Rattle.emp_dict.specs.Dicts.{dictionary_of}
@@ -74,9 +76,14 @@ abbrev pub StackFits : RowSystem → List Open → Type 0
 StackFits s [] = Unit {0}
 StackFits s (b ∷ bs) = OpenFits s b × StackFits s bs
 
+-- the nodes that are written are of certificates of the system
+abbrev pub WrittenFit : RowSystem → List Node → Type 0
+WrittenFit s ns = All (NodeFits (length s.pairs) (length s.quantities)) ns
+
 pub record PlaceFits (s : RowSystem) (c : Course) : Type 0 where
   pub stack : StackFits s c.stack
   pub best : BestFits c.best
+  pub written : WrittenFit s c.written
   pub nodes : c.nodes ≤ c.budget.used
 
 -- the node may be opened
@@ -134,6 +141,10 @@ abbrev pub CloseGives : Course → Course → Option End → Type 0
 CloseGives old new None = Popped old new
 CloseGives old new (Some e) = (e ≡ Closed) × (old.stack ≡ []) × (new ≡ old)
 
+-- a leaf that is read off a dictionary has one factor for each of its quantities
+abbrev pub LeafFits : Dictionary → Node → Type 0
+LeafFits d n = (pairs : ℕ) → NodeFits pairs (length d.marks) n
+
 -- a node is written
 abbrev pub wrote : Course → Node → Course
 wrote c n = record { dict = c.dict; asks = c.asks; stack = c.stack; best = c.best; written = c.written ++ n ∷ []; nodes = c.nodes; budget = c.budget }
@@ -164,13 +175,14 @@ pub record GoesOn (s : RowSystem) (r : Searched) (new : Course) : Type 0 where
   pub same : r ≡ pending s new
   pub fits : CourseFits s new
 
-pub record Finishes (r : Searched) (new : Course) (e : End) : Type 0 where
+pub record Finishes (s : RowSystem) (r : Searched) (new : Course) (e : End) : Type 0 where
   pub same : r ≡ ending_of new e
   pub fits : EndFits new e
+  pub written : WrittenFit s new.written
 
 abbrev pub Goes : RowSystem → Searched → Course → Option End → Type 0
 Goes s r new None = GoesOn s r new
-Goes s r new (Some e) = Finishes r new e
+Goes s r new (Some e) = Finishes s r new e
 
 -- a whole turn
 pub record Turned (s : RowSystem) (old new : Course) (e : Option End) : Type 0 where

@@ -6,11 +6,12 @@ use Rattle.emp_walk.specs.declared.course.End.{End}
 use Rattle.emp_walk.specs.declared.course.End.TheVariants.{Closed, Point, Ray}
 use Rattle.emp_walk.specs.declared.course.WalkFault.{WalkFault}
 use Rattle.emp_walk.specs.declared.course.Course.{Course}
-use Rattle.emp_walk.specs.Courses.{EndFits, FaultGives, pending, ending_of}
+use Rattle.emp_walk.specs.Courses.{EndFits, FaultGives, WrittenFit, pending, ending_of}
 
 pub record Ended (s : RowSystem) (old new : Course) (e : End) : Type 0 where
   pub same : pending s old ≡ ending_of new e
   pub fits : EndFits new e
+  pub written : WrittenFit s new.written
   pub limit : new.budget.limit ≡ old.budget.limit
 
 abbrev pub RunGives : RowSystem → Course → Course → Result End WalkFault → Type 0

@@ -69,7 +69,7 @@ pub struct Course {
 }
 
 impl Course {
-    ghost use Rattle.emp_walk.specs.Courses.{CloseGives, CourseFits, EndFits, FaultGives, Goes, IsKept, IsSplit, IsStart, OpenGives, PlaceFits, TurnGives, closed_at, decided_at, pending, wrote};
+    ghost use Rattle.emp_walk.specs.Courses.{CloseGives, CourseFits, EndFits, FaultGives, Goes, IsKept, IsSplit, IsStart, LeafFits, OpenGives, PlaceFits, TurnGives, closed_at, decided_at, pending, wrote};
     ghost use Rattle.emp_walk.specs.Decisions.{NextFits, decision_of};
 
     /// The course of a search before its root is opened.
@@ -124,7 +124,8 @@ impl Course {
     /// Writes a leaf with the Farkas row of a row.
     fn write_farkas(&mut self, alloc: Global, row: usize) -> Result<(), NoMemory>
         requires { row < length (dictionary_of self.old.dict).rows }
-        ensures { IfOk result (λ u. self.new ≡ wrote self.old (Farkas (farkas_factors (dictionary_of self.old.dict) row))) }
+        ensures wrote { IfOk result (λ u. self.new ≡ wrote self.old (Farkas (farkas_factors (dictionary_of self.old.dict) row))) }
+        ensures fits { IfOk result (λ u. LeafFits (dictionary_of self.old.dict) (Farkas (farkas_factors (dictionary_of self.old.dict) row))) }
     {
         let factors = farkas_row(alloc, &self.dict, row)?;
         self.written.push(Node::Farkas(factors))?;
@@ -134,7 +135,8 @@ impl Course {
     /// Writes a leaf with the Bound row of a row.
     fn write_bound(&mut self, alloc: Global, row: usize) -> Result<(), NoMemory>
         requires { row < length (dictionary_of self.old.dict).rows }
-        ensures { IfOk result (λ u. self.new ≡ wrote self.old (bound_of (dictionary_of self.old.dict) row)) }
+        ensures wrote { IfOk result (λ u. self.new ≡ wrote self.old (bound_of (dictionary_of self.old.dict) row)) }
+        ensures fits { IfOk result (λ u. LeafFits (dictionary_of self.old.dict) (bound_of (dictionary_of self.old.dict) row)) }
     {
         let factors = bound_row(alloc, &self.dict, row)?;
         self.written.push(Node::Bound(self.dict.denom(row), factors))?;
