@@ -5,3 +5,4 @@ pub mod Opening
 pub mod Settling
 pub mod Starting
 pub mod Leaves
+pub mod Certified

@@ -3,7 +3,7 @@ use Rattle.std.proofs.Common.{◌≡◌, ℕ, zero, suc, ◌-◌, List, [], leng
 use Rattle.std.specs.Option.{option_map}
 use Rattle.emp_rows.specs.declared.system.RowSystem.{RowSystem}
 use Rattle.std.proofs.lemmas.List.Elements.{All-nil}
-use Rattle.emp_cert.specs.Certs.{NodeFits}
+use Rattle.emp_cert.specs.Certs.{NodeFits, VerdictFits}
 use Rattle.emp_cert.specs.Nodes.{AreTrees}
 use Rattle.emp_cert.proofs.Forests.{whole_tree}
 use Rattle.emp_dict.specs.declared.label.Mark.TheVariants.{Unasked}
@@ -28,6 +28,7 @@ use Rattle.emp_walk.specs.declared.search.Answer.{Answer}
 use Rattle.emp_cert.specs.declared.cert.Verdict.{Verdict}
 use Rattle.emp_walk.specs.Searches.{AnswerGives, VerdictGives}
 use Rattle.emp_walk.specs.Courses.{FaultGives, WrittenFit, run_of, resumed, state_of, pending, ending_of, IsStart, StackFits, CourseFits}
+use Rattle.emp_walk.proofs.Certified.{verdict_fits}
 use Rattle.emp_walk.specs.Runs.{EndWhole, Ended}
 
 run_is : (s : RowSystem) (limit : ℕ) → run_of s limit (asks_of s Root) (started_of s) (first_state limit) ≡ search_of s limit
@@ -91,3 +92,8 @@ answer_whole s units c new e v work nodes h r g w n a av aw an =
       work = omega arith;
       nodes = an ∙ n;
     }
+
+pub verdict_whole : (s : RowSystem) (units : ℕ) (c new : Course) (e : End) (v : Verdict) → IsStart s units c → Ended s c new e → VerdictGives (ending_of new e) (state_of new) v → VerdictFits s.base (length s.quantities) (length s.pairs) v
+verdict_whole s units c new e v h r g =
+    let same : search_of s units ≡ ending_of new e = sym (start_pending s units c h) ∙ r.same in
+    verdict_fits s units (state_of new) v (subst (λ x. VerdictGives x (state_of new) v) (sym same) g) r.written

@@ -1,5 +1,6 @@
 //! The search of a row system.
-ghost use Rattle.std.specs.Prelude.{◌≡◌, IfOk};
+ghost use Rattle.std.specs.Prelude.{◌≡◌, length, IfOk};
+ghost use Rattle.emp_cert.specs.Certs.{VerdictFits};
 ghost use Rattle.emp_cert.specs.Nodes.{AreTrees};
 ghost use Rattle.emp_search.specs.Search.{closed};
 ghost use Rattle.emp_walk.specs.Courses.{CourseFits, EndFits, ending_of, state_of};
@@ -76,7 +77,8 @@ fn verdict(course: Course, alloc: Global, end: End) -> Result<Verdict, NoMemory>
 /// `Wide` exactly where a pivot of the search forms a number with absolute value 2^126 or more, `Spent` exactly where it asks for more units. Want of
 /// memory is free.
 pub fn search(alloc: Global, system: &RowSystem, work: u64) -> Result<Answer, WalkFault>
-    ensures { SearchGives system.now work result }
+    ensures search { SearchGives system.now work result }
+    ensures fits { IfOk result (λ a. VerdictFits system.now.base (length system.now.quantities) (length system.now.pairs) a.verdict) }
 {
     let Ok(mut course) = Course::start(alloc, system, work) else {
         return Err(WalkFault::NoMemory);
