@@ -1,5 +1,5 @@
 -- What the answer of a search shows of the system, and that it makes a certificate.
-use Rattle.std.proofs.Common.{◌≡◌, ℕ, ◌+◌, ◌<◌, ◌≤◌, ℤ, ◌*ℤ◌, ◌≤ℤ◌, List, [], length, Option, Some, None, arith, refl, sym, ap, subst, ◌∙◌}
+use Rattle.std.proofs.Common.{◌≡◌, ℕ, ◌+◌, ◌<◌, ◌≤◌, ℤ, ◌*ℤ◌, ◌≤ℤ◌, List, [], length, Option, Some, None, Result, Ok, Err, IfOk, arith, refl, sym, ap, subst, ◌∙◌}
 use Rattle.emp_algebra.proofs.Order.{linear}
 use Rattle.emp_num.specs.Point.{Point, StandsFor}
 use Rattle.emp_num.specs.declared.frac.Frac.{Frac}
@@ -7,9 +7,11 @@ use Rattle.emp_num.proofs.Commons.{common_point, stands_for_common}
 use Rattle.emp_rows.specs.declared.affine.Affine.{Affine}
 use Rattle.emp_rows.specs.declared.system.RowSystem.{RowSystem}
 use Rattle.emp_rows.specs.RowPoints.{value_at}
+use Rattle.emp_rows.proofs.Pairs.{few_pairs}
 use Rattle.emp_cert.specs.declared.cert.Verdict.{Verdict}
 use Rattle.emp_cert.specs.declared.cert.Verdict.TheVariants.{Point as PointVerdict, Missing, Best, Unbounded}
-use Rattle.emp_cert.specs.Certs.{NodeFits, VerdictFits}
+use Rattle.emp_cert.specs.Certs.{Counts, LinksFit, NodeFits, VerdictFits}
+use Rattle.emp_cert.specs.declared.cert.Found.{Found}
 use Rattle.emp_cert.specs.Verdicts.{IsRowRay, VerdictShown}
 use Rattle.emp_dict.specs.declared.label.Label.TheVariants.{Objective}
 use Rattle.emp_dict.specs.Dictionary.{Dictionary, line_at, row_label, row_of, objective_value}
@@ -22,7 +24,10 @@ use Rattle.emp_search.specs.Search.{Finding, point, ray, State, Searched, closed
 use Rattle.emp_search.specs.Shown.{Reaches, ShowsFor, IsSolved, BestIs, FoundIs, IsShown, SearchShows}
 use Rattle.emp_search.proofs.Rooted.{searches_show}
 use Rattle.emp_walk.specs.Courses.{WrittenFit}
-use Rattle.emp_walk.specs.Searches.{VerdictGives}
+use Rattle.emp_walk.specs.declared.course.WalkFault.{WalkFault}
+use Rattle.emp_walk.specs.declared.search.Answer.{Answer}
+use Rattle.emp_walk.specs.Searches.{AnswerGives, VerdictGives}
+use Rattle.emp_walk.specs.Founds.{NamesSystem, answer_of, FoundGives, CertGives, IsWalkVerdict, IsBestVerdict}
 
 -- ---- the point of an incumbent reaches it
 reaches_own : (s : RowSystem) (o : Affine) (d : Dictionary) (fs : List Frac) (x : Point) → IsDictionaryOf s d → s.objective ≡ Some o → IsPointOf d fs → StandsFor fs x → Reaches o x d
@@ -95,3 +100,49 @@ verdict_fits s units st (Best fs t) g w =
 verdict_fits s units st (Unbounded fs gs) g w =
     let h : FoundIs s (ray g.0 g.1 g.2) = shows_at s units (found (ray g.0 g.1 g.2) st) g.3 in
     ray_widths s fs gs (λ p y k l. h.1 fs gs p y g.4 g.5 k l)
+
+-- ---- certificates
+pub links_fit : (s : RowSystem) → LinksFit (length s.quantities) (length s.pairs) s.pairs
+links_fit s = record {
+  count = refl;
+  first = λ k d b. let m = s.sound.first_members k d b in let w = m.within in let o = s.sound.one_kind_each in (m.above, omega arith);
+  second = λ k d b. let m = s.sound.second_members k d b in let w = m.within in let o = s.sound.one_kind_each in (m.above, omega arith);
+}
+
+pub found_gives : (s : RowSystem) (units : ℕ) (a : Answer) (f : Found) → AnswerGives (search_of s units) units a → NamesSystem s f → answer_of f ≡ a → FoundGives s units f
+found_gives s units a f g n e = record {
+  names = n;
+  answer = subst (AnswerGives (search_of s units) units) (sym e) g;
+  shown = subst (λ (x : Answer). VerdictShown s x.verdict) (sym e) (verdict_shown s units g.state a.verdict g.verdict);
+}
+
+walk_kind : (s : RowSystem) (v : Verdict) → s.objective ≡ None → VerdictShown s v → IsWalkVerdict v
+walk_kind s (PointVerdict fs) e h = tt
+walk_kind s (Missing t) e h = tt
+walk_kind s (Best fs t) e h = let z : None ≡ Some h.0 = sym e ∙ h.1 in absurd (cc)
+walk_kind s (Unbounded fs gs) e h = let z : None ≡ Some h.0 = sym e ∙ h.1 in absurd (cc)
+
+best_kind : (s : RowSystem) (v : Verdict) (o : Affine) → s.objective ≡ Some o → VerdictShown s v → IsBestVerdict v
+best_kind s (PointVerdict fs) o e h = let z : None ≡ Some o = sym h.0 ∙ e in absurd (cc)
+best_kind s (Missing t) o e h = tt
+best_kind s (Best fs t) o e h = tt
+best_kind s (Unbounded fs gs) o e h = tt
+
+pub walk_kinds : (s : RowSystem) (units : ℕ) (r : Result Found WalkFault) → s.objective ≡ None → CertGives s units r → IfOk r (λ f. IsWalkVerdict f.cert.verdict)
+walk_kinds s units (Ok f) e g = walk_kind s f.cert.verdict e g.shown
+walk_kinds s units (Err x) e g = tt
+
+pub best_kinds : (s : RowSystem) (units : ℕ) (r : Result Found WalkFault) → (o : Affine) × (s.objective ≡ Some o) → CertGives s units r → IfOk r (λ f. IsBestVerdict f.cert.verdict)
+best_kinds s units (Ok f) e g = best_kind s f.cert.verdict e.0 e.1 g.shown
+best_kinds s units (Err x) e g = tt
+
+pub links_by : (s : RowSystem) (q p : ℕ) (ls ps : List (ℕ × ℕ)) → q ≡ length s.quantities → p ≡ length s.pairs → ls ≡ s.pairs → Some ls ≡ Some ps → LinksFit q p ps
+links_by s q p ls ps eq ep el e =
+    let same : s.pairs ≡ ps = cc in
+    subst (λ x. LinksFit x p ps) (sym eq) (subst (λ x. LinksFit (length s.quantities) x ps) (sym ep) (subst (LinksFit (length s.quantities) (length s.pairs)) same (links_fit s)))
+
+pub verdict_by : (s : RowSystem) (q p : ℕ) (v : Verdict) → q ≡ length s.quantities → p ≡ length s.pairs → VerdictFits s.base (length s.quantities) (length s.pairs) v → VerdictFits s.base q p v
+verdict_by s q p v eq ep h = subst (λ x. VerdictFits s.base x p v) (sym eq) (subst (λ x. VerdictFits s.base (length s.quantities) x v) (sym ep) h)
+
+pub counts_by : (s : RowSystem) (q p : ℕ) → q ≡ length s.quantities → p ≡ length s.pairs → Counts s.base q p
+counts_by s q p eq ep = record { few_variables = s.sound.few_variables; few_quantities = let f = s.sound.few_quantities in omega arith; few_pairs = let f = few_pairs s in omega arith }

@@ -3,3 +3,4 @@ pub mod Decisions
 pub mod Courses
 pub mod Runs
 pub mod Searches
+pub mod Founds

@@ -5,3 +5,4 @@ mod asks;
 mod next;
 mod course;
 pub mod search;
+pub mod walk;
