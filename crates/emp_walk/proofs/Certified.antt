@@ -1,5 +1,5 @@
 -- What the answer of a search shows of the system, and that it makes a certificate.
-use Rattle.std.proofs.Common.{◌≡◌, ℕ, ◌+◌, ◌<◌, ◌≤◌, ℤ, ◌*ℤ◌, ◌≤ℤ◌, List, [], length, Option, Some, None, Result, Ok, Err, IfOk, arith, refl, sym, ap, subst, ◌∙◌}
+use Rattle.std.proofs.Common.{◌≡◌, ℕ, ◌<◌, ◌*ℤ◌, List, [], length, Option, Some, None, Result, Ok, Err, IfOk, arith, refl, sym, ap, subst, ◌∙◌}
 use Rattle.emp_algebra.proofs.Order.{linear}
 use Rattle.emp_num.specs.Point.{Point, StandsFor}
 use Rattle.emp_num.specs.declared.frac.Frac.{Frac}
@@ -10,21 +10,21 @@ use Rattle.emp_rows.specs.RowPoints.{value_at}
 use Rattle.emp_rows.proofs.Pairs.{few_pairs}
 use Rattle.emp_cert.specs.declared.cert.Verdict.{Verdict}
 use Rattle.emp_cert.specs.declared.cert.Verdict.TheVariants.{Point as PointVerdict, Missing, Best, Unbounded}
-use Rattle.emp_cert.specs.Certs.{Counts, LinksFit, NodeFits, VerdictFits}
+use Rattle.emp_cert.specs.Certs.{Counts, LinksFit, VerdictFits}
 use Rattle.emp_cert.specs.declared.cert.Found.{Found}
 use Rattle.emp_cert.specs.Verdicts.{IsRowRay, VerdictShown}
 use Rattle.emp_dict.specs.declared.label.Label.TheVariants.{Objective}
 use Rattle.emp_dict.specs.Dictionary.{Dictionary, line_at, row_label, row_of, objective_value}
 use Rattle.emp_step.proofs.Labels.{row_found, row_none}
-use Rattle.emp_decide.specs.Reads.{value_by, value_of, IsPointOf, IsStepOf}
+use Rattle.emp_decide.specs.Reads.{value_by, value_of, IsPointOf}
 use Rattle.emp_decide.specs.Laws.{IsDictionaryOf, IsLabelOf, worth}
 use Rattle.emp_decide.proofs.Points.{points_tell}
 use Rattle.emp_decide.proofs.Decides.{has_objective}
-use Rattle.emp_search.specs.Search.{Finding, point, ray, State, Searched, closed, found, search_of}
+use Rattle.emp_search.specs.Search.{point, ray, State, Searched, closed, found, search_of}
 use Rattle.emp_search.specs.Shown.{Reaches, ShowsFor, IsSolved, BestIs, FoundIs, IsShown, SearchShows}
 use Rattle.emp_search.proofs.Rooted.{searches_show}
 use Rattle.emp_walk.specs.Courses.{WrittenFit}
-use Rattle.emp_walk.specs.declared.course.WalkFault.{WalkFault}
+use Rattle.emp_walk.specs.declared.fault.WalkFault.{WalkFault}
 use Rattle.emp_walk.specs.declared.search.Answer.{Answer}
 use Rattle.emp_walk.specs.Searches.{AnswerGives, VerdictGives}
 use Rattle.emp_walk.specs.Founds.{NamesSystem, answer_of, FoundGives, CertGives, IsWalkVerdict, IsBestVerdict}

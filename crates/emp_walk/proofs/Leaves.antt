@@ -1,5 +1,5 @@
 -- Leaves that are read off a dictionary.
-use Rattle.std.proofs.Common.{◌≡◌, ℕ, ◌<◌, ℤ, pos, negsuc, neg_ℤ, List, length, ap, subst, ◌∙◌}
+use Rattle.std.proofs.Common.{◌≡◌, ℕ, ◌<◌, ℤ, pos, negsuc, neg_ℤ, List, length, subst}
 use Rattle.std.specs.List.{All}
 use Rattle.emp_num.specs.Exact.{IsNarrow}
 use Rattle.emp_cert.specs.declared.tree.Node.TheVariants.{Farkas}

@@ -23,7 +23,7 @@ use Rattle.emp_walk.specs.declared.course.End.TheVariants.{Closed, Point, Ray}
 use Rattle.emp_walk.specs.declared.course.Course.{Course}
 use Rattle.emp_walk.specs.Fits.{IsAt, AsksFit, asks_of}
 use Rattle.emp_walk.specs.Decisions.{BestFits}
-use Rattle.emp_walk.specs.declared.course.WalkFault.{WalkFault}
+use Rattle.emp_walk.specs.declared.fault.WalkFault.{WalkFault}
 use Rattle.emp_walk.specs.declared.search.Answer.{Answer}
 use Rattle.emp_cert.specs.declared.cert.Verdict.{Verdict}
 use Rattle.emp_walk.specs.Searches.{AnswerGives, VerdictGives}

@@ -19,8 +19,8 @@ use Rattle.emp_walk.specs.declared.asks.Asks.TheVariants.{Root, Child}
 use Rattle.emp_walk.specs.declared.course.Open.{Open}
 use Rattle.emp_walk.specs.declared.course.End.{End}
 use Rattle.emp_walk.specs.declared.course.End.TheVariants.{Closed, Point, Ray}
-use Rattle.emp_walk.specs.declared.course.WalkFault.{WalkFault}
-use Rattle.emp_walk.specs.declared.course.WalkFault.TheVariants.{Wide, Spent, NoMemory}
+use Rattle.emp_walk.specs.declared.fault.WalkFault.{WalkFault}
+use Rattle.emp_walk.specs.declared.fault.WalkFault.TheVariants.{Wide, Spent, NoMemory}
 use Rattle.emp_walk.specs.declared.course.Course.{Course}
 use Rattle.emp_walk.specs.Fits.{IsAt, AskFits, AsksFit, DoneFits, asks_of}
 use Rattle.emp_walk.specs.Decisions.{BestFits}

@@ -6,7 +6,7 @@ use Rattle.emp_cert.specs.declared.cert.Verdict.{Verdict}
 use Rattle.emp_cert.specs.declared.cert.Verdict.TheVariants.{Point, Missing, Best, Unbounded}
 use Rattle.emp_cert.specs.Verdicts.{VerdictShown}
 use Rattle.emp_search.specs.Search.{search_of}
-use Rattle.emp_walk.specs.declared.course.WalkFault.{WalkFault}
+use Rattle.emp_walk.specs.declared.fault.WalkFault.{WalkFault}
 use Rattle.emp_walk.specs.declared.search.Answer.{Answer}
 use Rattle.emp_walk.specs.Courses.{FaultGives}
 use Rattle.emp_walk.specs.Searches.{AnswerGives}

@@ -4,7 +4,7 @@ use Rattle.emp_rows.specs.declared.system.RowSystem.{RowSystem}
 use Rattle.emp_cert.specs.Nodes.{AreTrees}
 use Rattle.emp_walk.specs.declared.course.End.{End}
 use Rattle.emp_walk.specs.declared.course.End.TheVariants.{Closed, Point, Ray}
-use Rattle.emp_walk.specs.declared.course.WalkFault.{WalkFault}
+use Rattle.emp_walk.specs.declared.fault.WalkFault.{WalkFault}
 use Rattle.emp_walk.specs.declared.course.Course.{Course}
 use Rattle.emp_walk.specs.Courses.{EndFits, FaultGives, WrittenFit, pending, ending_of}
 

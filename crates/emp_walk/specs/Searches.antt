@@ -6,7 +6,7 @@ use Rattle.emp_cert.specs.declared.cert.Verdict.TheVariants.{Point, Missing, Bes
 use Rattle.emp_dict.specs.Dictionary.{Dictionary}
 use Rattle.emp_decide.specs.Reads.{IsPointOf, IsStepOf}
 use Rattle.emp_search.specs.Search.{point, ray, State, Searched, closed, found, search_of}
-use Rattle.emp_walk.specs.declared.course.WalkFault.{WalkFault}
+use Rattle.emp_walk.specs.declared.fault.WalkFault.{WalkFault}
 use Rattle.emp_walk.specs.declared.search.Answer.{Answer}
 use Rattle.emp_walk.specs.Courses.{FaultGives}
 

@@ -45,11 +45,7 @@ fn ask(
 }
 
 /// Raises or fixes each quantity in order, until one cannot be.
-fn ask_all(
-    system: &RowSystem,
-    dict: &mut Dict,
-    budget: &mut Budget,
-) -> Result<Outcome, StepFault>
+fn ask_all(system: &RowSystem, dict: &mut Dict, budget: &mut Budget) -> Result<Outcome, StepFault>
     requires at { IsAt system.now (dictionary_of dict.old) }
     requires unasked { (q : ℕ) → mark_at (dictionary_of dict.old) q ≡ Unasked }
     ensures step { StepGives (asked (asks_from 1 system.now.kinds) (units_left budget.old) (dictionary_of dict.old)) (dictionary_of dict.new) (units_left budget.new) result }
@@ -86,11 +82,7 @@ fn ask_each(
 }
 
 /// Makes the objective least.
-fn least(
-    system: &RowSystem,
-    dict: &mut Dict,
-    budget: &mut Budget,
-) -> Result<Outcome, StepFault>
+fn least(system: &RowSystem, dict: &mut Dict, budget: &mut Budget) -> Result<Outcome, StepFault>
     requires at { IsAt system.now (dictionary_of dict.old) }
     requires objective { (o : Affine) × (system.now.objective ≡ Some o) }
     ensures step { StepGives (bested (units_left budget.old) (dictionary_of dict.old)) (dictionary_of dict.new) (units_left budget.new) result }

@@ -8,6 +8,7 @@ ghost use Rattle.emp_search.specs.Search.{bound_of};
 ghost use Rattle.emp_walk.specs.Fits.{IsAt};
 
 use crate::asks::{Asks, work};
+use crate::fault::WalkFault;
 use crate::next::{Next, decide};
 use emp_cert::tree::Node;
 use emp_decide::row::{bound_row, farkas_row};
@@ -36,18 +37,6 @@ pub enum End {
     Point,
     /// The objective falls without end along this column, up where the flag says so.
     Ray(usize, bool),
-}
-
-/// Why a search ends without a verdict.
-#[derive(Clone, Copy, Debug, PartialEq, Eq)]
-pub enum WalkFault {
-    /// At this node, counted from 1 as they are opened, the pivot of this number in the whole search, from 1, forms a number with absolute value
-    /// 2^126 or more.
-    Wide(u64, u64),
-    /// One more unit of work is asked for after as many as this limit were taken.
-    Spent(u64),
-    /// No memory is left.
-    NoMemory,
 }
 
 /// Where a search stands before a node is opened.
@@ -139,7 +128,8 @@ impl Course {
         ensures fits { IfOk result (λ u. LeafFits (dictionary_of self.old.dict) (bound_of (dictionary_of self.old.dict) row)) }
     {
         let factors = bound_row(alloc, &self.dict, row)?;
-        self.written.push(Node::Bound(self.dict.denom(row), factors))?;
+        self.written
+            .push(Node::Bound(self.dict.denom(row), factors))?;
         Ok(())
     }
 
@@ -165,7 +155,12 @@ impl Course {
     }
 
     /// Does what comes next after the work of the node.
-    fn settle(&mut self, alloc: Global, system: &RowSystem, next: Next) -> Result<Option<End>, NoMemory>
+    fn settle(
+        &mut self,
+        alloc: Global,
+        system: &RowSystem,
+        next: Next,
+    ) -> Result<Option<End>, NoMemory>
         requires done { IsAt system.now (dictionary_of self.old.dict) }
         requires place { PlaceFits system.now self.old }
         requires next { NextFits system.now (dictionary_of self.old.dict) next }

@@ -2,7 +2,8 @@
 #![tactic(auto)]
 
 mod asks;
-mod next;
 mod course;
+pub mod fault;
+mod next;
 pub mod search;
 pub mod walk;

@@ -151,7 +151,10 @@ pub fn decide(system: &RowSystem, best: &Option<Dict>, dict: &Dict, outcome: Out
             }
         }
         Outcome::Ray(column, up) => {
-            split_or(Next::Ray(column, up), first_pair(system, dict, Test::Broken(column)))
+            split_or(
+                Next::Ray(column, up),
+                first_pair(system, dict, Test::Broken(column)),
+            )
         }
     }
 }

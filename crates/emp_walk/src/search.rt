@@ -8,14 +8,13 @@ ghost use Rattle.emp_walk.specs.Runs.{EndWhole, RunGives};
 ghost use Rattle.emp_walk.specs.Searches.{SearchGives, VerdictGives};
 
 use crate::course::{Course, End};
+use crate::fault::WalkFault;
 use emp_cert::cert::Verdict;
 use emp_cert::tree::Tree;
 use emp_decide::point::{point_of, step_of};
 use emp_list::memory::NoMemory;
 use emp_rows::system::RowSystem;
 use std::alloc::Global;
-
-pub use crate::course::WalkFault;
 
 /// What a search found, and the units of work and the nodes that it took.
 #[derive(Drop)]

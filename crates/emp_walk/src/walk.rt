@@ -4,7 +4,8 @@ ghost use Rattle.emp_rows.specs.declared.affine.Affine.{Affine};
 ghost use Rattle.emp_cert.specs.Certs.{VerdictFits};
 ghost use Rattle.emp_walk.specs.Founds.{CertGives, IsBestVerdict, IsWalkVerdict, NamesSystem, answer_of};
 
-use crate::search::{Answer, WalkFault, search};
+use crate::fault::WalkFault;
+use crate::search::{Answer, search};
 use emp_cert::cert::{Cert, Found};
 use emp_list::memory::NoMemory;
 use emp_rows::system::RowSystem;
