@@ -20,6 +20,8 @@ mod printed_annotations;
 #[cfg(test)]
 mod printed_texts;
 #[cfg(test)]
+mod runs;
+#[cfg(test)]
 mod small_pairs;
 #[cfg(test)]
 mod tokens;
