@@ -8,8 +8,8 @@ use Rattle.gms_print.specs.ReadsBack.{HasText}
 use Rattle.emp_command.specs.Words.{Asked}
 use Rattle.emp_command.specs.Course.{Outcome}
 use Rattle.emp_list.specs.declared.memory.NoMemory.{NoMemory}
-use Rattle.gms_read.specs.declared.fault.ModelFault.{ModelFault}
-use Rattle.gms_read.specs.declared.fault.ModelFault.TheVariants as ModelWords
+use Rattle.gms_grammar.specs.declared.fault.ModelFault.{ModelFault}
+use Rattle.gms_grammar.specs.declared.fault.ModelFault.TheVariants as ModelWords
 use Rattle.gms_read.specs.Texts.{RefusesModel}
 use Rattle.info_read.specs.declared.fault.InfoFault.{InfoFault}
 use Rattle.info_read.specs.declared.fault.InfoFault.TheVariants as InfoWords

@@ -12,8 +12,8 @@ use Rattle.emp_desk.specs.Desk.{Place, Contents, Told, KeepsAll, KeepsFiles, Say
 use Rattle.emp_command.specs.declared.words.Verb.TheVariants.{Solve, Print}
 use Rattle.emp_command.specs.Words.{Asked, Asks, solve, check, print, make, migrate, pieces}
 use Rattle.emp_command.specs.Course.{Outcome, refusal, IsDue, bad_words, bad_work, bad_firms, unread, too_long, answered, no_memory, IsCut, Delivers, whole, unsaid, unstored, StoresAll, StoresPart, Runs, delivered, cut_short}
-use Rattle.gms_read.specs.declared.fault.ModelFault.{ModelFault}
-use Rattle.gms_read.specs.declared.fault.ModelFault.TheVariants as ModelWords
+use Rattle.gms_grammar.specs.declared.fault.ModelFault.{ModelFault}
+use Rattle.gms_grammar.specs.declared.fault.ModelFault.TheVariants as ModelWords
 use Rattle.gms_read.specs.Texts.{IsModelText, RefusesModel}
 use Rattle.gms_print.specs.Canonical.{IsCanonical}
 use Rattle.info_read.specs.declared.fault.InfoFault.{InfoFault}

@@ -11,8 +11,8 @@ use Rattle.emp_command.specs.declared.words.Verb.TheVariants.{Print, Make}
 use Rattle.emp_command.specs.Words.{Asked, Asks, solve, check, print, make, migrate, pieces}
 use Rattle.emp_command.specs.Course.{Outcome, limit_of, IsInRange, IsWorkInRange, FilesFit, IsDue, bad_words, bad_work, bad_firms, unread, too_long, answered, no_memory, IsCut, Delivers, whole, unsaid, unstored, StoresAll, NeedsNoMemory, Runs, delivered, cut_short}
 use Rattle.emp_command.proofs.Telling.{told_map}
-use Rattle.gms_read.specs.declared.fault.ModelFault.TheVariants as ModelWords
-use Rattle.gms_read.specs.declared.fault.ModelFault.{ModelFault}
+use Rattle.gms_grammar.specs.declared.fault.ModelFault.TheVariants as ModelWords
+use Rattle.gms_grammar.specs.declared.fault.ModelFault.{ModelFault}
 use Rattle.gms_read.specs.Texts.{IsModelText, RefusesModel}
 use Rattle.gms_read.proofs.OneMeaning.{one_model}
 use Rattle.gms_print.proofs.Soundness.{sound_model}

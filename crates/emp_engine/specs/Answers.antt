@@ -8,8 +8,8 @@ use Rattle.emp_command.specs.Course.{Outcome, refusal}
 use Rattle.emp_ast.specs.declared.model.Model.{Model}
 use Rattle.emp_ast.specs.declared.annot.Annot.{Annot}
 use Rattle.emp_ast.specs.Names.{variable_names}
-use Rattle.gms_read.specs.declared.fault.ModelFault.{ModelFault}
-use Rattle.gms_read.specs.declared.fault.ModelFault.TheVariants as ModelWords
+use Rattle.gms_grammar.specs.declared.fault.ModelFault.{ModelFault}
+use Rattle.gms_grammar.specs.declared.fault.ModelFault.TheVariants as ModelWords
 use Rattle.gms_read.specs.Texts.{IsModelText, RefusesModel}
 use Rattle.gms_print.specs.Canonical.{IsCanonical}
 use Rattle.info_read.specs.declared.fault.InfoFault.{InfoFault}

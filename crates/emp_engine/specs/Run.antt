@@ -9,8 +9,8 @@ use Rattle.emp_ast.specs.Names.{variable_names}
 use Rattle.emp_ast.specs.Equilibrium.{IsEquilibrium}
 use Rattle.emp_desk.specs.Desk.{Place, loads, output, Contents, Says, Rose}
 use Rattle.emp_command.specs.Words.{Asked, Asks}
-use Rattle.gms_read.specs.declared.fault.ModelFault.{ModelFault}
-use Rattle.gms_read.specs.declared.fault.ModelFault.TheVariants as ModelWords
+use Rattle.gms_grammar.specs.declared.fault.ModelFault.{ModelFault}
+use Rattle.gms_grammar.specs.declared.fault.ModelFault.TheVariants as ModelWords
 use Rattle.gms_read.specs.Texts.{IsModelText, RefusesModel}
 use Rattle.gms_print.specs.Canonical.{IsCanonical}
 use Rattle.info_read.specs.declared.fault.InfoFault.{InfoFault}

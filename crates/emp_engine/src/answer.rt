@@ -2,7 +2,7 @@
 ghost use Rattle.std.specs.Prelude.{◌≡◌, ◌≢◌, ◌<◌, ◌≤◌, ◌∷◌, [], true, false, length, IfOk};
 ghost use Rattle.emp_command.specs.Requests.{asked_of};
 ghost use Rattle.gms_print.specs.ReadsBack.{HasText};
-ghost use Rattle.gms_read.specs.declared.fault.ModelFault.TheVariants as model_words;
+ghost use Rattle.gms_grammar.specs.declared.fault.ModelFault.TheVariants as model_words;
 ghost use Rattle.info_read.specs.declared.fault.InfoFault.TheVariants as info_words;
 ghost use Rattle.emp_lines.specs.TextLines.{model_line, info_line};
 ghost use Rattle.emp_engine.specs.Answers.{saying, Answers, is_built};
@@ -15,8 +15,8 @@ use emp_command::words::{Request, Verb};
 use emp_lines::texts;
 use emp_list::memory::NoMemory;
 use emp_list::seq::Seq;
+use gms_grammar::fault::ModelFault;
 use gms_print::print::print_model;
-use gms_read::fault::ModelFault;
 use gms_read::read::read_model;
 use info_print::print::print_info;
 use info_read::fault::InfoFault;

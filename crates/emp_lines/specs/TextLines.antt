@@ -8,8 +8,8 @@ use Rattle.emp_ast.specs.Names.{variable_names, equation_names}
 use Rattle.emp_command.specs.Lines.{no_memory_line}
 use Rattle.emp_lex.specs.declared.fault.LexFault.{LexFault}
 use Rattle.emp_lex.specs.declared.fault.LexFault.TheVariants as LexWords
-use Rattle.gms_read.specs.declared.fault.ModelFault.{ModelFault}
-use Rattle.gms_read.specs.declared.fault.ModelFault.TheVariants as ModelWords
+use Rattle.gms_grammar.specs.declared.fault.ModelFault.{ModelFault}
+use Rattle.gms_grammar.specs.declared.fault.ModelFault.TheVariants as ModelWords
 use Rattle.info_read.specs.declared.fault.InfoFault.{InfoFault}
 use Rattle.info_read.specs.declared.fault.InfoFault.TheVariants as InfoWords
 use Rattle.emp_owner.specs.declared.owned.OwnFault.{OwnFault}

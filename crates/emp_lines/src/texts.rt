@@ -1,7 +1,7 @@
 //! The lines of texts that stand for nothing, and of broken rules of ownership.
 ghost use Rattle.std.specs.Prelude.{◌≡◌, ◌≢◌, ◌≤◌, codes, length, MatchOption};
 ghost use Rattle.emp_lines.specs.TextLines.{lex_line, model_line, info_line, own_line, not_yet_line, own_start, named_line};
-ghost use Rattle.gms_read.specs.declared.fault.ModelFault.TheVariants as model_words;
+ghost use Rattle.gms_grammar.specs.declared.fault.ModelFault.TheVariants as model_words;
 ghost use Rattle.info_read.specs.declared.fault.InfoFault.TheVariants as info_words;
 ghost use Rattle.emp_owner.specs.declared.owned.OwnFault.TheVariants as own_words;
 
@@ -10,7 +10,7 @@ use emp_ast::model::Model;
 use emp_command::line::{Line, plain};
 use emp_lex::fault::LexFault;
 use emp_owner::owned::OwnFault;
-use gms_read::fault::ModelFault;
+use gms_grammar::fault::ModelFault;
 use info_read::fault::InfoFault;
 
 /// The line of a verb, an option or a form of file that is not built.

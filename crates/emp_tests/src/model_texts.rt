@@ -2,7 +2,7 @@
 use emp_ast::model::{End, Model, Relation, Sense};
 use emp_ast::tree::{Node, Place, Tree};
 use emp_lex::fault::LexFault;
-use gms_read::fault::ModelFault;
+use gms_grammar::fault::ModelFault;
 use gms_read::read::read_model;
 use std::alloc::Global;
 use std::test::Fail;

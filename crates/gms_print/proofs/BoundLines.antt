@@ -11,15 +11,15 @@ use Rattle.emp_ast.specs.declared.model.End.TheVariants.{Open as OpenEnd, At as 
 use Rattle.emp_ast.specs.declared.model.Variable.{Variable}
 use Rattle.emp_lex.specs.Bytes.{is_letter, is_blank}
 use Rattle.emp_lex.specs.Forms.{IsName}
-use Rattle.gms_read.specs.declared.lexeme.Word.{Word}
-use Rattle.gms_read.specs.declared.lexeme.Word.TheVariants.{Low, High}
-use Rattle.gms_read.specs.declared.lexeme.Sign.TheVariants.{Minus}
-use Rattle.gms_read.specs.declared.lexeme.Sort.TheVariants.{Name, Numeral, Sign, Equals, Semicolon, Dot}
-use Rattle.gms_read.specs.declared.lexeme.Lexeme.{Lexeme}
-use Rattle.gms_read.specs.declared.draft.Limit.TheVariants.{At}
-use Rattle.gms_read.specs.Lexemes.{word_sort}
-use Rattle.gms_read.specs.Nesting.{too_deep_from}
-use Rattle.gms_read.specs.Grammar.{Statement, setting, finite, IsLimit, no_sign, with_sign, is_setting}
+use Rattle.gms_grammar.specs.declared.lexeme.Word.{Word}
+use Rattle.gms_grammar.specs.declared.lexeme.Word.TheVariants.{Low, High}
+use Rattle.gms_grammar.specs.declared.lexeme.Sign.TheVariants.{Minus}
+use Rattle.gms_grammar.specs.declared.lexeme.Sort.TheVariants.{Name, Numeral, Sign, Equals, Semicolon, Dot}
+use Rattle.gms_grammar.specs.declared.lexeme.Lexeme.{Lexeme}
+use Rattle.gms_grammar.specs.declared.limit.Limit.TheVariants.{At}
+use Rattle.gms_grammar.specs.Lexemes.{word_sort}
+use Rattle.gms_grammar.specs.Nesting.{too_deep_from}
+use Rattle.gms_grammar.specs.Grammar.{Statement, setting, finite, IsLimit, no_sign, with_sign, is_setting}
 use Rattle.gms_print.specs.Canonical.{IsDecimal, IsNumeral, sign_text, EndLine, no_end, an_end, BoundLines, no_variables, a_variable}
 use Rattle.gms_print.proofs.Pieces.{Piece, rendered, IsOf, AreOf, SymbolEnds, Good}
 use Rattle.gms_print.proofs.Sound.{IsFree, IsValue, SoundEnd, SoundVariable}

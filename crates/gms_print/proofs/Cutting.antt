@@ -22,9 +22,9 @@ use Rattle.emp_lex.specs.Tokens.{Reads, at_end, skipped, taken, IsTooWide, past,
 use Rattle.emp_lex.specs.Forms.{IsText, IsRelation, IsSymbol, HasForm}
 use Rattle.emp_lex.proofs.Lexing.{slice_is}
 use Rattle.emp_lex.proofs.Wides.{value_not_wide}
-use Rattle.gms_read.specs.declared.lexeme.Sort.{Sort}
-use Rattle.gms_read.specs.declared.lexeme.Lexeme.{Lexeme}
-use Rattle.gms_read.specs.Lexemes.{IsSort, AreLexemes}
+use Rattle.gms_grammar.specs.declared.lexeme.Sort.{Sort}
+use Rattle.gms_grammar.specs.declared.lexeme.Lexeme.{Lexeme}
+use Rattle.gms_grammar.specs.Lexemes.{IsSort, AreLexemes}
 use Rattle.gms_read.specs.Texts.{HasLexemes}
 use Rattle.gms_print.proofs.Pieces.{Piece, rendered, AreOf, IsGap, ends_line, EndsBefore, IsPiece, Good, good_end, good_piece}
 use Rattle.gms_print.proofs.Taking.{step_taken, space_skipped, end_skipped}

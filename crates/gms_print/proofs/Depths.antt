@@ -6,16 +6,16 @@ use Rattle.std.proofs.Math.Nat.{le-max_left, le-max_right, max-le}
 use Rattle.emp_ast.specs.declared.tree.Place.{Place}
 use Rattle.emp_ast.specs.declared.tree.Operator.TheVariants.{Plus as AddOperator, Minus as SubOperator, Times as MulOperator, Over as DivOperator}
 use Rattle.emp_ast.specs.Expression.{Expression, number, variable, negated, joined as joined_with, power}
-use Rattle.gms_read.specs.declared.lexeme.Sort.{Sort}
-use Rattle.gms_read.specs.declared.lexeme.Sort.TheVariants.{Open, Close}
-use Rattle.gms_read.specs.declared.lexeme.Sign.{Sign}
-use Rattle.gms_read.specs.declared.lexeme.Sign.TheVariants.{Plus, Minus}
-use Rattle.gms_read.specs.declared.lexeme.Scale.{Scale}
-use Rattle.gms_read.specs.declared.lexeme.Scale.TheVariants.{Times, Over}
-use Rattle.gms_read.specs.declared.lexeme.Lexeme.{Lexeme}
+use Rattle.gms_grammar.specs.declared.lexeme.Sort.{Sort}
+use Rattle.gms_grammar.specs.declared.lexeme.Sort.TheVariants.{Open, Close}
+use Rattle.gms_grammar.specs.declared.lexeme.Sign.{Sign}
+use Rattle.gms_grammar.specs.declared.lexeme.Sign.TheVariants.{Plus, Minus}
+use Rattle.gms_grammar.specs.declared.lexeme.Scale.{Scale}
+use Rattle.gms_grammar.specs.declared.lexeme.Scale.TheVariants.{Times, Over}
+use Rattle.gms_grammar.specs.declared.lexeme.Lexeme.{Lexeme}
 use Rattle.gms_read.specs.declared.draft.Draft.{Draft}
-use Rattle.gms_read.specs.Nesting.{level_behind, too_deep_from}
-use Rattle.gms_read.specs.Grammar.{Written, numeral, name, call, listed, grouped, raised, signed, joined, Level, Arguments, Sum, Term, Factor, Primary, Stands, a_numeral, a_name, a_call, a_group, a_primary, a_power, a_factor, a_product, a_term, a_signed, a_sum, an_argument, arguments, sum_operator, product_operator}
+use Rattle.gms_grammar.specs.Nesting.{level_behind, too_deep_from}
+use Rattle.gms_grammar.specs.Grammar.{Written, numeral, name, call, listed, grouped, raised, signed, joined, Level, Arguments, Sum, Term, Factor, Primary, Stands, a_numeral, a_name, a_call, a_group, a_primary, a_power, a_factor, a_product, a_term, a_signed, a_sum, an_argument, arguments, sum_operator, product_operator}
 use Rattle.gms_read.specs.Rules.{meaning}
 use Rattle.gms_print.specs.Canonical.{is_sum, is_product, is_base}
 use Rattle.gms_print.proofs.Sound.{deeper, depth}

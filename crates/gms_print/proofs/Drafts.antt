@@ -14,23 +14,23 @@ use Rattle.emp_ast.specs.declared.tree.VarId.{VarId}
 use Rattle.emp_ast.specs.declared.model.Relation.{Relation}
 use Rattle.emp_ast.specs.declared.model.Sense.{Sense}
 use Rattle.emp_ast.specs.Expression.{Expression, number, variable as variable_of_number, negated, joined as joined_with, power}
-use Rattle.gms_read.specs.declared.lexeme.Word.TheVariants.{Low, High, Fixed, Level as LevelWord, Marginal}
-use Rattle.gms_read.specs.declared.lexeme.Domain.{Domain}
-use Rattle.gms_read.specs.declared.lexeme.Domain.TheVariants.{Free, Positive, Negative, Discrete}
-use Rattle.gms_read.specs.declared.lexeme.Sign.TheVariants.{Plus, Minus}
-use Rattle.gms_read.specs.declared.lexeme.Sort.{Sort}
-use Rattle.gms_read.specs.declared.lexeme.Sort.TheVariants.{Name}
-use Rattle.gms_read.specs.declared.lexeme.Lexeme.{Lexeme}
+use Rattle.gms_grammar.specs.declared.lexeme.Word.TheVariants.{Low, High, Fixed, Level as LevelWord, Marginal}
+use Rattle.gms_grammar.specs.declared.lexeme.Domain.{Domain}
+use Rattle.gms_grammar.specs.declared.lexeme.Domain.TheVariants.{Free, Positive, Negative, Discrete}
+use Rattle.gms_grammar.specs.declared.lexeme.Sign.TheVariants.{Plus, Minus}
+use Rattle.gms_grammar.specs.declared.lexeme.Sort.{Sort}
+use Rattle.gms_grammar.specs.declared.lexeme.Sort.TheVariants.{Name}
+use Rattle.gms_grammar.specs.declared.lexeme.Lexeme.{Lexeme}
 use Rattle.gms_read.specs.declared.draft.Definition.{Definition}
 use Rattle.gms_read.specs.declared.draft.DraftEquation.{DraftEquation}
 use Rattle.gms_read.specs.declared.draft.Draft.{Draft}
 use Rattle.gms_read.specs.declared.draft.DraftVariable.{DraftVariable}
-use Rattle.gms_read.specs.declared.draft.Limit.{Limit}
+use Rattle.gms_grammar.specs.declared.limit.Limit.{Limit}
 use Rattle.gms_read.specs.declared.table.Named.{Named}
 use Rattle.gms_read.specs.declared.table.Named.TheVariants.{Variable as VariableName, Equation as EquationName, Model as ModelName}
-use Rattle.gms_read.specs.declared.fault.ModelFault.{ModelFault}
-use Rattle.gms_read.specs.Lexemes.{spelling}
-use Rattle.gms_read.specs.Grammar.{Written, numeral, name, call, listed, grouped, raised, signed, joined, Statement, empty, variables, equations, definition, setting, model, solve}
+use Rattle.gms_grammar.specs.declared.fault.ModelFault.{ModelFault}
+use Rattle.gms_grammar.specs.Lexemes.{spelling}
+use Rattle.gms_grammar.specs.Grammar.{Written, numeral, name, call, listed, grouped, raised, signed, joined, Statement, empty, variables, equations, definition, setting, model, solve}
 use Rattle.gms_read.specs.Rules.{Step, and_then, or_else, unless_fault, fault_where, entry_of, declared_as, variable_in, is_model, is_model_entry, is_none, small_whole, exponent, expression_fault, or_zero, second_exponent, meaning, tree_of, first_low, first_high, has_sign, no_variable, variable_at, with_variable, add_variable, add_equation, add_model, restrict, declare_by, declare_variable, declare_equation, declare_all, discrete_fault, declare_model, no_equation, equation_at, with_definition, definition_fault, equation_of, define, is_infinite, with_low, with_high, set_variable, set_equation, set_by, with_goal, aim_at, aim, after, nothing_yet}
 use Rattle.gms_print.proofs.Sound.{IsFree, IsValue, SoundExpression, SoundTree, SoundGoal}
 use Rattle.gms_print.proofs.GoodTexts.{HasValues, GoodSide, SoundLimit, FreeName, GoodStatement}

@@ -16,21 +16,21 @@ use Rattle.emp_ast.specs.declared.model.Model.{Model}
 use Rattle.emp_ast.specs.Nodes.{nodes_from}
 use Rattle.emp_ast.specs.Names.{variable_names, equation_names, SameEquations, SameModel}
 use Rattle.emp_num.specs.declared.frac.Frac.{Frac}
-use Rattle.gms_read.specs.declared.lexeme.Word.{Word}
-use Rattle.gms_read.specs.declared.lexeme.Word.TheVariants.{Low, High}
-use Rattle.gms_read.specs.declared.lexeme.Domain.TheVariants.{Free}
-use Rattle.gms_read.specs.declared.lexeme.Sort.TheVariants.{Name}
-use Rattle.gms_read.specs.declared.lexeme.Lexeme.{Lexeme}
-use Rattle.gms_read.specs.declared.draft.Limit.{Limit}
-use Rattle.gms_read.specs.declared.draft.Limit.TheVariants.{Below, At, Above}
+use Rattle.gms_grammar.specs.declared.lexeme.Word.{Word}
+use Rattle.gms_grammar.specs.declared.lexeme.Word.TheVariants.{Low, High}
+use Rattle.gms_grammar.specs.declared.lexeme.Domain.TheVariants.{Free}
+use Rattle.gms_grammar.specs.declared.lexeme.Sort.TheVariants.{Name}
+use Rattle.gms_grammar.specs.declared.lexeme.Lexeme.{Lexeme}
+use Rattle.gms_grammar.specs.declared.limit.Limit.{Limit}
+use Rattle.gms_grammar.specs.declared.limit.Limit.TheVariants.{Below, At, Above}
 use Rattle.gms_read.specs.declared.draft.DraftVariable.{DraftVariable}
 use Rattle.gms_read.specs.declared.draft.Definition.{Definition}
 use Rattle.gms_read.specs.declared.draft.DraftEquation.{DraftEquation}
 use Rattle.gms_read.specs.declared.draft.Draft.{Draft}
 use Rattle.gms_read.specs.declared.table.Named.TheVariants.{Variable as VariableName, Equation as EquationName, Model as ModelName}
-use Rattle.gms_read.specs.declared.fault.ModelFault.TheVariants.{Undeclared, TooLarge, BoundsCross}
-use Rattle.gms_read.specs.Lexemes.{spelling}
-use Rattle.gms_read.specs.Grammar.{Written, Statement, variables, equations, definition, setting, model, solve}
+use Rattle.gms_grammar.specs.declared.fault.ModelFault.TheVariants.{Undeclared, TooLarge, BoundsCross}
+use Rattle.gms_grammar.specs.Lexemes.{spelling}
+use Rattle.gms_grammar.specs.Grammar.{Written, Statement, variables, equations, definition, setting, model, solve}
 use Rattle.gms_read.specs.Rules.{Step, and_then, or_else, is_model_entry, aim, aim_at, with_goal, add_model, finished, finish, finish_by, whole_meaning, whole_meaning_by, entry_of, declared_as, declare_by, declare_variable, declare_equation, declare_all, add_variable, add_equation, expression_fault, meaning, tree_of, after, after_all, nothing_yet, undefined_from, crossing_from, end_of, finished_variables, finished_equations, is_none, variable_in, with_definition, no_equation, set_by, set_variable, no_variable}
 use Rattle.gms_print.proofs.ExpressionReads.{Knows}
 use Rattle.gms_print.proofs.Sound.{low_limit, high_limit, SoundVariable, SoundGoal, Sound, all_names}

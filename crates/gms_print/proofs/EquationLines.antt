@@ -11,11 +11,11 @@ use Rattle.emp_ast.specs.declared.model.Equation.{Equation}
 use Rattle.emp_ast.specs.Expression.{Expression, expression_of}
 use Rattle.emp_ast.specs.Nodes.{nodes_from, IsTreeOf}
 use Rattle.emp_ast.proofs.Nodes.{stands_of}
-use Rattle.gms_read.specs.declared.lexeme.Sort.TheVariants.{Name, Relation as Related, Dots, Semicolon}
-use Rattle.gms_read.specs.declared.lexeme.Lexeme.{Lexeme}
-use Rattle.gms_read.specs.Lexemes.{relation_of}
-use Rattle.gms_read.specs.Nesting.{too_deep_from}
-use Rattle.gms_read.specs.Grammar.{Statement, definition, Sum, IsStatement, is_definition}
+use Rattle.gms_grammar.specs.declared.lexeme.Sort.TheVariants.{Name, Relation as Related, Dots, Semicolon}
+use Rattle.gms_grammar.specs.declared.lexeme.Lexeme.{Lexeme}
+use Rattle.gms_grammar.specs.Lexemes.{relation_of}
+use Rattle.gms_grammar.specs.Nesting.{too_deep_from}
+use Rattle.gms_grammar.specs.Grammar.{Statement, definition, Sum, IsStatement, is_definition}
 use Rattle.gms_print.specs.Canonical.{Prints, relation_text, EquationLines, no_equations, an_equation}
 use Rattle.gms_print.proofs.Pieces.{Piece, rendered, IsOf, AreOf, SymbolEnds, Good, good_piece}
 use Rattle.gms_print.proofs.Sound.{IsFree, SoundExpression, depth, SoundTree, SoundEquation}

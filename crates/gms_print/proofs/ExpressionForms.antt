@@ -5,9 +5,9 @@ use Rattle.emp_ast.specs.declared.tree.Operator.{Operator}
 use Rattle.emp_ast.specs.declared.tree.Operator.TheVariants.{Plus, Minus, Times, Over}
 use Rattle.emp_ast.specs.Expression.{Expression, number, variable, negated, joined, power}
 use Rattle.emp_lex.specs.Forms.{IsSymbol}
-use Rattle.gms_read.specs.declared.lexeme.Lexeme.{Lexeme}
-use Rattle.gms_read.specs.Lexemes.{word_sort, symbol_sort}
-use Rattle.gms_read.specs.Grammar.{Written, Level, Sum, Term, Factor, Primary, Stands}
+use Rattle.gms_grammar.specs.declared.lexeme.Lexeme.{Lexeme}
+use Rattle.gms_grammar.specs.Lexemes.{word_sort, symbol_sort}
+use Rattle.gms_grammar.specs.Grammar.{Written, Level, Sum, Term, Factor, Primary, Stands}
 use Rattle.gms_print.specs.Canonical.{operator_text}
 use Rattle.gms_print.proofs.Pieces.{Piece, rendered, AreOf, IsGap, ends_line, SymbolEnds, Good}
 use Rattle.gms_print.proofs.Sound.{IsFree}

@@ -6,18 +6,18 @@ use Rattle.emp_list.specs.Case.{lower}
 use Rattle.emp_ast.specs.declared.tree.Operator.{Operator}
 use Rattle.emp_ast.specs.declared.tree.Operator.TheVariants.{Plus, Minus, Times, Over}
 use Rattle.emp_ast.specs.Expression.{Expression, number, variable, negated, joined, power}
-use Rattle.gms_read.specs.declared.lexeme.Word.{Word}
-use Rattle.gms_read.specs.declared.lexeme.Word.TheVariants.{Power as PowerWord}
-use Rattle.gms_read.specs.declared.lexeme.Sign.TheVariants.{Plus as PlusSign, Minus as MinusSign}
-use Rattle.gms_read.specs.declared.lexeme.Scale.TheVariants.{Times as TimesScale, Over as OverScale}
-use Rattle.gms_read.specs.declared.lexeme.Sort.{Sort}
-use Rattle.gms_read.specs.declared.lexeme.Sort.TheVariants.{Name, Numeral, Sign, Scale, Raise, Comma, Open, Close}
-use Rattle.gms_read.specs.declared.lexeme.Lexeme.{Lexeme}
-use Rattle.gms_read.specs.declared.fault.ModelFault.{ModelFault}
-use Rattle.gms_read.specs.declared.fault.ModelFault.TheVariants.{Undeclared, Function}
-use Rattle.gms_read.specs.Lexemes.{spelling}
-use Rattle.gms_read.specs.Nesting.{level_behind, too_deep_from}
-use Rattle.gms_read.specs.Grammar.{Written, numeral, name, call, listed, grouped, raised, signed, joined as joined_written, Level, Sum, Term, Factor, Primary, Stands, a_numeral, a_name, a_call, a_group, a_primary, a_power, a_factor, a_product, a_term, a_signed, a_sum, an_argument, arguments}
+use Rattle.gms_grammar.specs.declared.lexeme.Word.{Word}
+use Rattle.gms_grammar.specs.declared.lexeme.Word.TheVariants.{Power as PowerWord}
+use Rattle.gms_grammar.specs.declared.lexeme.Sign.TheVariants.{Plus as PlusSign, Minus as MinusSign}
+use Rattle.gms_grammar.specs.declared.lexeme.Scale.TheVariants.{Times as TimesScale, Over as OverScale}
+use Rattle.gms_grammar.specs.declared.lexeme.Sort.{Sort}
+use Rattle.gms_grammar.specs.declared.lexeme.Sort.TheVariants.{Name, Numeral, Sign, Scale, Raise, Comma, Open, Close}
+use Rattle.gms_grammar.specs.declared.lexeme.Lexeme.{Lexeme}
+use Rattle.gms_grammar.specs.declared.fault.ModelFault.{ModelFault}
+use Rattle.gms_grammar.specs.declared.fault.ModelFault.TheVariants.{Undeclared, Function}
+use Rattle.gms_grammar.specs.Lexemes.{spelling}
+use Rattle.gms_grammar.specs.Nesting.{level_behind, too_deep_from}
+use Rattle.gms_grammar.specs.Grammar.{Written, numeral, name, call, listed, grouped, raised, signed, joined as joined_written, Level, Sum, Term, Factor, Primary, Stands, a_numeral, a_name, a_call, a_group, a_primary, a_power, a_factor, a_product, a_term, a_signed, a_sum, an_argument, arguments}
 use Rattle.gms_read.specs.Rules.{or_else, fault_where, is_none, or_zero, exponent, is_exponent, is_one_argument, is_function, meaning, expression_fault}
 use Rattle.gms_print.proofs.ExpressionReads.{StandsFor}
 

@@ -7,9 +7,9 @@ use Rattle.emp_lex.specs.declared.token.TokenKind.TheVariants.{Name, Numeral, Sy
 use Rattle.emp_lex.specs.declared.scan.Class.TheVariants.{Word}
 use Rattle.emp_lex.specs.Bytes.{is_of, is_letter}
 use Rattle.emp_lex.specs.Forms.{IsName, IsSymbol}
-use Rattle.gms_read.specs.declared.lexeme.Sort.TheVariants.{Numeral as NumeralSort}
-use Rattle.gms_read.specs.declared.lexeme.Lexeme.{Lexeme}
-use Rattle.gms_read.specs.Lexemes.{word_sort, symbol_sort}
+use Rattle.gms_grammar.specs.declared.lexeme.Sort.TheVariants.{Numeral as NumeralSort}
+use Rattle.gms_grammar.specs.declared.lexeme.Lexeme.{Lexeme}
+use Rattle.gms_grammar.specs.Lexemes.{word_sort, symbol_sort}
 use Rattle.gms_print.proofs.Pieces.{Piece, rendered, IsOf, AreOf, IsGap, ends_line, SymbolEnds, Good, good_piece}
 use Rattle.gms_print.proofs.ExpressionReads.{EndsOperand}
 

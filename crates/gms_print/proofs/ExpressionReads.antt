@@ -7,11 +7,11 @@ use Rattle.emp_list.specs.Case.{lower}
 use Rattle.emp_ast.specs.Expression.{Expression}
 use Rattle.emp_lex.specs.declared.scan.Class.TheVariants.{Word}
 use Rattle.emp_lex.specs.Bytes.{is_of}
-use Rattle.gms_read.specs.declared.lexeme.Lexeme.{Lexeme}
+use Rattle.gms_grammar.specs.declared.lexeme.Lexeme.{Lexeme}
 use Rattle.gms_read.specs.declared.draft.Draft.{Draft}
-use Rattle.gms_read.specs.Lexemes.{spelling}
-use Rattle.gms_read.specs.Nesting.{too_deep_from}
-use Rattle.gms_read.specs.Grammar.{Written, Level, Sum, Stands}
+use Rattle.gms_grammar.specs.Lexemes.{spelling}
+use Rattle.gms_grammar.specs.Nesting.{too_deep_from}
+use Rattle.gms_grammar.specs.Grammar.{Written, Level, Sum, Stands}
 use Rattle.gms_read.specs.Rules.{variable_of, exponent, is_one_argument, meaning, expression_fault}
 use Rattle.gms_print.specs.Canonical.{IsNumeral}
 use Rattle.gms_print.proofs.Pieces.{Piece, rendered, AreOf, IsGap, ends_line, Good}

@@ -3,8 +3,8 @@ use Rattle.std.proofs.Common.{◌≡◌, ℕ, Bool, true, false, not, ◌||◌, 
 use Rattle.emp_ast.specs.declared.tree.Operator.{Operator}
 use Rattle.emp_ast.specs.declared.tree.Operator.TheVariants.{Plus, Minus, Times, Over}
 use Rattle.emp_ast.specs.Expression.{Expression, number, variable, negated, joined, power}
-use Rattle.gms_read.specs.declared.lexeme.Lexeme.{Lexeme}
-use Rattle.gms_read.specs.Grammar.{Written, Level, Sum, Term, Factor, Primary, Stands, a_primary, a_factor, a_term}
+use Rattle.gms_grammar.specs.declared.lexeme.Lexeme.{Lexeme}
+use Rattle.gms_grammar.specs.Grammar.{Written, Level, Sum, Term, Factor, Primary, Stands, a_primary, a_factor, a_term}
 use Rattle.gms_print.specs.Canonical.{wrapped, is_sum, is_product, is_left_wrapped, is_right_wrapped, is_base, power_text, Prints, prints_number, prints_variable, prints_negated, prints_joined, prints_power}
 use Rattle.gms_print.proofs.Sound.{IsFree, deeper, depth, SoundExpression}
 use Rattle.gms_print.proofs.ExpressionReads.{NumeralsRead, ReadsExponent, ReadsAt, ReadsExpression}

@@ -15,19 +15,19 @@ use Rattle.emp_lex.specs.declared.token.TokenKind.{TokenKind}
 use Rattle.emp_lex.specs.declared.token.TokenKind.TheVariants.{Name as NameKind, Numeral as NumeralKind, Text as TextKind, Relation as RelationKind, Symbol as SymbolKind}
 use Rattle.emp_lex.specs.Forms.{HasForm, IsFormed}
 use Rattle.emp_lex.proofs.TokenBytes.{tokens_formed}
-use Rattle.gms_read.specs.declared.lexeme.Word.{Word}
-use Rattle.gms_read.specs.declared.lexeme.Word.TheVariants.{Other}
-use Rattle.gms_read.specs.declared.lexeme.Sign.{Sign}
-use Rattle.gms_read.specs.declared.lexeme.Sign.TheVariants.{Plus, Minus}
-use Rattle.gms_read.specs.declared.lexeme.Scale.TheVariants.{Times, Over}
-use Rattle.gms_read.specs.declared.lexeme.Sort.{Sort}
-use Rattle.gms_read.specs.declared.lexeme.Sort.TheVariants.{Name, Numeral, Sign as Signed, Scale as Scaled, Raise, Equals, Semicolon, Comma, Dot, Dots, Open, Close}
-use Rattle.gms_read.specs.declared.lexeme.Lexeme.{Lexeme}
+use Rattle.gms_grammar.specs.declared.lexeme.Word.{Word}
+use Rattle.gms_grammar.specs.declared.lexeme.Word.TheVariants.{Other}
+use Rattle.gms_grammar.specs.declared.lexeme.Sign.{Sign}
+use Rattle.gms_grammar.specs.declared.lexeme.Sign.TheVariants.{Plus, Minus}
+use Rattle.gms_grammar.specs.declared.lexeme.Scale.TheVariants.{Times, Over}
+use Rattle.gms_grammar.specs.declared.lexeme.Sort.{Sort}
+use Rattle.gms_grammar.specs.declared.lexeme.Sort.TheVariants.{Name, Numeral, Sign as Signed, Scale as Scaled, Raise, Equals, Semicolon, Comma, Dot, Dots, Open, Close}
+use Rattle.gms_grammar.specs.declared.lexeme.Lexeme.{Lexeme}
 use Rattle.gms_read.specs.declared.draft.Draft.{Draft}
-use Rattle.gms_read.specs.declared.draft.Limit.{Limit}
-use Rattle.gms_read.specs.declared.draft.Limit.TheVariants.{Below, At, Above}
-use Rattle.gms_read.specs.Lexemes.{of_words, words, keywords, word_sort, symbol_sort, IsSort, spelling, IsLexeme, AreLexemes}
-use Rattle.gms_read.specs.Grammar.{Written, numeral, name, call, listed, grouped, raised, signed, joined, Level, Sum, Stands, a_numeral, a_name, a_call, a_group, a_primary, a_power, a_factor, a_product, a_term, a_signed, a_sum, an_argument, arguments, IsEntry, bare, described, AreNames, first, next, next_behind_comma, signed_limit, IsUnsigned, finite, infinite, IsLimit, no_sign, with_sign, Statement, empty, variables, equations, definition, setting, model, solve, IsStatement, is_empty, is_variables, is_domain, is_equations, is_definition, is_setting, is_model}
+use Rattle.gms_grammar.specs.declared.limit.Limit.{Limit}
+use Rattle.gms_grammar.specs.declared.limit.Limit.TheVariants.{Below, At, Above}
+use Rattle.gms_grammar.specs.Lexemes.{of_words, words, keywords, word_sort, symbol_sort, IsSort, spelling, IsLexeme, AreLexemes}
+use Rattle.gms_grammar.specs.Grammar.{Written, numeral, name, call, listed, grouped, raised, signed, joined, Level, Sum, Stands, a_numeral, a_name, a_call, a_group, a_primary, a_power, a_factor, a_product, a_term, a_signed, a_sum, an_argument, arguments, IsEntry, bare, described, AreNames, first, next, next_behind_comma, signed_limit, IsUnsigned, finite, infinite, IsLimit, no_sign, with_sign, Statement, empty, variables, equations, definition, setting, model, solve, IsStatement, is_empty, is_variables, is_domain, is_equations, is_definition, is_setting, is_model}
 use Rattle.gms_read.specs.Texts.{HasLexemes}
 use Rattle.gms_read.specs.Rules.{meaning}
 use Rattle.gms_print.proofs.Sound.{IsFree, IsValue, depth}

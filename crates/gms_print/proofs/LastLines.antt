@@ -6,13 +6,13 @@ use Rattle.emp_ast.specs.declared.model.Sense.TheVariants.{Min, Max}
 use Rattle.emp_lex.specs.declared.scan.Class.TheVariants.{Word}
 use Rattle.emp_lex.specs.Bytes.{is_of}
 use Rattle.emp_lex.specs.Forms.{IsName}
-use Rattle.gms_read.specs.declared.lexeme.Word.TheVariants.{All as AllWord, Using, Emp, Minimizing, Maximizing}
-use Rattle.gms_read.specs.declared.lexeme.Scale.TheVariants.{Over}
-use Rattle.gms_read.specs.declared.lexeme.Sort.TheVariants.{Name, Model as ModelSort, Solve as SolveSort, Scale, Semicolon}
-use Rattle.gms_read.specs.declared.lexeme.Lexeme.{Lexeme}
-use Rattle.gms_read.specs.Lexemes.{spelling}
-use Rattle.gms_read.specs.Nesting.{too_deep_from}
-use Rattle.gms_read.specs.Grammar.{Statement, model, solve, bare, is_model, IsGoal, no_goal, least, greatest, is_solve, none as no_semicolons, IsFile, last}
+use Rattle.gms_grammar.specs.declared.lexeme.Word.TheVariants.{All as AllWord, Using, Emp, Minimizing, Maximizing}
+use Rattle.gms_grammar.specs.declared.lexeme.Scale.TheVariants.{Over}
+use Rattle.gms_grammar.specs.declared.lexeme.Sort.TheVariants.{Name, Model as ModelSort, Solve as SolveSort, Scale, Semicolon}
+use Rattle.gms_grammar.specs.declared.lexeme.Lexeme.{Lexeme}
+use Rattle.gms_grammar.specs.Lexemes.{spelling}
+use Rattle.gms_grammar.specs.Nesting.{too_deep_from}
+use Rattle.gms_grammar.specs.Grammar.{Statement, model, solve, bare, is_model, IsGoal, no_goal, least, greatest, is_solve, none as no_semicolons, IsFile, last}
 use Rattle.gms_print.specs.Canonical.{goal_text}
 use Rattle.gms_print.proofs.Pieces.{Piece, rendered, IsOf, AreOf, IsGap, ends_line, Good, good_end}
 use Rattle.gms_print.proofs.Sound.{IsFree, SoundGoal}

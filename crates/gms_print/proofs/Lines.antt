@@ -4,12 +4,12 @@ use Rattle.std.proofs.lemmas.List.Elements.{All-head, All-tail}
 use Rattle.emp_lex.specs.declared.scan.Class.TheVariants.{Word}
 use Rattle.emp_lex.specs.Bytes.{is_of}
 use Rattle.emp_lex.specs.Forms.{IsName}
-use Rattle.gms_read.specs.declared.lexeme.Sort.{Sort}
-use Rattle.gms_read.specs.declared.lexeme.Sort.TheVariants.{Name as NameSort, Semicolon, Comma}
-use Rattle.gms_read.specs.declared.lexeme.Lexeme.{Lexeme}
-use Rattle.gms_read.specs.Lexemes.{spelling}
-use Rattle.gms_read.specs.Nesting.{level_behind, too_deep_from}
-use Rattle.gms_read.specs.Grammar.{Statement, bare, AreNames, next_behind_comma, IsStatement, IsFile, then}
+use Rattle.gms_grammar.specs.declared.lexeme.Sort.{Sort}
+use Rattle.gms_grammar.specs.declared.lexeme.Sort.TheVariants.{Name as NameSort, Semicolon, Comma}
+use Rattle.gms_grammar.specs.declared.lexeme.Lexeme.{Lexeme}
+use Rattle.gms_grammar.specs.Lexemes.{spelling}
+use Rattle.gms_grammar.specs.Nesting.{level_behind, too_deep_from}
+use Rattle.gms_grammar.specs.Grammar.{Statement, bare, AreNames, next_behind_comma, IsStatement, IsFile, then}
 use Rattle.gms_print.specs.Canonical.{more_names}
 use Rattle.gms_print.proofs.Pieces.{Piece, rendered, IsOf, AreOf, IsGap, ends_line, Good, good_piece}
 use Rattle.gms_print.proofs.Sound.{IsFree}

@@ -6,13 +6,13 @@ use Rattle.std.proofs.lemmas.List.Elements.{All-head, All-tail, All-nil, All-con
 use Rattle.emp_lex.specs.declared.scan.Class.TheVariants.{Word}
 use Rattle.emp_lex.specs.Bytes.{is_letter, is_of}
 use Rattle.emp_lex.specs.Forms.{IsName}
-use Rattle.gms_read.specs.declared.lexeme.Domain.TheVariants.{Free}
-use Rattle.gms_read.specs.declared.lexeme.Sort.{Sort}
-use Rattle.gms_read.specs.declared.lexeme.Sort.TheVariants.{Name, Variables, Equations, Semicolon}
-use Rattle.gms_read.specs.declared.lexeme.Lexeme.{Lexeme}
-use Rattle.gms_read.specs.Lexemes.{spelling, word_sort}
-use Rattle.gms_read.specs.Nesting.{level_behind, too_deep_from}
-use Rattle.gms_read.specs.Grammar.{variables, equations, IsStatement, bare, AreNames, first, is_variables, is_equations}
+use Rattle.gms_grammar.specs.declared.lexeme.Domain.TheVariants.{Free}
+use Rattle.gms_grammar.specs.declared.lexeme.Sort.{Sort}
+use Rattle.gms_grammar.specs.declared.lexeme.Sort.TheVariants.{Name, Variables, Equations, Semicolon}
+use Rattle.gms_grammar.specs.declared.lexeme.Lexeme.{Lexeme}
+use Rattle.gms_grammar.specs.Lexemes.{spelling, word_sort}
+use Rattle.gms_grammar.specs.Nesting.{level_behind, too_deep_from}
+use Rattle.gms_grammar.specs.Grammar.{variables, equations, IsStatement, bare, AreNames, first, is_variables, is_equations}
 use Rattle.gms_print.specs.Canonical.{more_names, names_line}
 use Rattle.gms_print.proofs.Pieces.{Piece, rendered, IsOf, AreOf, Good}
 use Rattle.gms_print.proofs.Sound.{IsFree}

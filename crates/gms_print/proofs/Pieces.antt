@@ -5,9 +5,9 @@ use Rattle.emp_lex.specs.declared.token.TokenKind.TheVariants.{Name, Numeral, Te
 use Rattle.emp_lex.specs.declared.scan.Class.TheVariants.{Word}
 use Rattle.emp_lex.specs.Bytes.{is_of, is_letter, is_blank}
 use Rattle.emp_lex.specs.Forms.{HasForm}
-use Rattle.gms_read.specs.declared.lexeme.Sort.{Sort}
-use Rattle.gms_read.specs.declared.lexeme.Lexeme.{Lexeme}
-use Rattle.gms_read.specs.Lexemes.{IsSort, spelling}
+use Rattle.gms_grammar.specs.declared.lexeme.Sort.{Sort}
+use Rattle.gms_grammar.specs.declared.lexeme.Lexeme.{Lexeme}
+use Rattle.gms_grammar.specs.Lexemes.{IsSort, spelling}
 
 -- a token, what it is to the grammar, and the blanks behind it
 pub record Piece : Type 0 where

@@ -16,11 +16,11 @@ use Rattle.emp_ast.specs.Expression.{Expression, number, variable, negated, join
 use Rattle.emp_ast.specs.Nodes.{IsTreeOf}
 use Rattle.emp_ast.specs.Names.{variable_names, equation_names}
 use Rattle.emp_lex.specs.Forms.{IsName}
-use Rattle.gms_read.specs.declared.lexeme.Word.{Word}
-use Rattle.gms_read.specs.declared.lexeme.Sort.TheVariants.{Name}
-use Rattle.gms_read.specs.declared.draft.Limit.{Limit}
-use Rattle.gms_read.specs.declared.draft.Limit.TheVariants.{Below, At as AtLimit, Above}
-use Rattle.gms_read.specs.Lexemes.{word_sort}
+use Rattle.gms_grammar.specs.declared.lexeme.Word.{Word}
+use Rattle.gms_grammar.specs.declared.lexeme.Sort.TheVariants.{Name}
+use Rattle.gms_grammar.specs.declared.limit.Limit.{Limit}
+use Rattle.gms_grammar.specs.declared.limit.Limit.TheVariants.{Below, At as AtLimit, Above}
+use Rattle.gms_grammar.specs.Lexemes.{word_sort}
 use Rattle.gms_read.specs.Rules.{crosses}
 use Rattle.gms_print.specs.Canonical.{is_left_wrapped, is_right_wrapped, is_sum, is_base}
 

@@ -6,17 +6,17 @@ use Rattle.std.proofs.lemmas.List.Elements.{All-from_recursion}
 use Rattle.emp_ast.specs.declared.model.Equation.{Equation}
 use Rattle.emp_ast.specs.declared.model.Variable.{Variable}
 use Rattle.emp_ast.specs.declared.model.Model.{Model}
-use Rattle.gms_read.specs.declared.lexeme.Lexeme.{Lexeme}
+use Rattle.gms_grammar.specs.declared.lexeme.Lexeme.{Lexeme}
 use Rattle.gms_read.specs.declared.draft.Definition.{Definition}
 use Rattle.gms_read.specs.declared.draft.DraftEquation.{DraftEquation}
 use Rattle.gms_read.specs.declared.draft.Draft.{Draft}
 use Rattle.gms_read.specs.declared.draft.DraftVariable.{DraftVariable}
-use Rattle.gms_read.specs.declared.draft.Limit.{Limit}
-use Rattle.gms_read.specs.declared.draft.Limit.TheVariants.{Below, At, Above}
-use Rattle.gms_read.specs.declared.fault.ModelFault.{ModelFault}
-use Rattle.gms_read.specs.declared.fault.ModelFault.TheVariants.{Undefined}
-use Rattle.gms_read.specs.Nesting.{too_deep_from}
-use Rattle.gms_read.specs.Grammar.{Statement, solve, IsSolve, is_solve, IsFile, last, then}
+use Rattle.gms_grammar.specs.declared.limit.Limit.{Limit}
+use Rattle.gms_grammar.specs.declared.limit.Limit.TheVariants.{Below, At, Above}
+use Rattle.gms_grammar.specs.declared.fault.ModelFault.{ModelFault}
+use Rattle.gms_grammar.specs.declared.fault.ModelFault.TheVariants.{Undefined}
+use Rattle.gms_grammar.specs.Nesting.{too_deep_from}
+use Rattle.gms_grammar.specs.Grammar.{Statement, solve, IsSolve, is_solve, IsFile, last, then}
 use Rattle.gms_read.specs.Rules.{Step, and_then, or_else, is_none, after, after_all, nothing_yet, undefined_from, crosses, crossing_from, end_of, finished_variables, finished_equation, finished_equations, or_empty, finished, finish_by, finish, whole_meaning_by}
 use Rattle.emp_ast.specs.Names.{variable_names}
 use Rattle.gms_print.specs.ReadsBack.{HasText}

@@ -4,8 +4,8 @@ use Rattle.std.proofs.lemmas.List.{length-append, length-map, get_or_append_left
 use Rattle.emp_list.specs.Case.{lower}
 use Rattle.emp_ast.specs.declared.model.Model.{Model}
 use Rattle.emp_ast.specs.Names.{variable_names, equation_names}
-use Rattle.gms_read.specs.declared.lexeme.Lexeme.{Lexeme}
-use Rattle.gms_read.specs.Grammar.{Statement}
+use Rattle.gms_grammar.specs.declared.lexeme.Lexeme.{Lexeme}
+use Rattle.gms_grammar.specs.Grammar.{Statement}
 use Rattle.gms_read.specs.Texts.{HasLexemes}
 use Rattle.gms_print.specs.Canonical.{names_line, goal_text, IsCanonical}
 use Rattle.gms_print.specs.ReadsBack.{ReadsBack}

@@ -4,20 +4,20 @@ use Rattle.std.proofs.lemmas.List.{at_drop_more, at_drop_all}
 use Rattle.std.proofs.lemmas.Bool.Decides.{nat_tests}
 use Rattle.emp_num.specs.declared.frac.Frac.{Frac}
 use Rattle.emp_ast.specs.declared.tree.Operator.{Operator}
-use Rattle.gms_read.specs.declared.lexeme.Word.TheVariants.{Square, Power as PowerWord}
-use Rattle.gms_read.specs.declared.lexeme.Sort.{Sort}
-use Rattle.gms_read.specs.declared.lexeme.Sort.TheVariants.{Name as IsName}
-use Rattle.gms_read.specs.declared.lexeme.Sign.{Sign}
-use Rattle.gms_read.specs.declared.lexeme.Lexeme.{Lexeme}
-use Rattle.gms_read.specs.declared.item.Item.{Item}
-use Rattle.gms_read.specs.declared.item.Item.TheVariants.{Number, Name, Enters, Lists, Applies, Groups, Raises, Signs, Joins}
+use Rattle.gms_grammar.specs.declared.lexeme.Word.TheVariants.{Square, Power as PowerWord}
+use Rattle.gms_grammar.specs.declared.lexeme.Sort.{Sort}
+use Rattle.gms_grammar.specs.declared.lexeme.Sort.TheVariants.{Name as IsName}
+use Rattle.gms_grammar.specs.declared.lexeme.Sign.{Sign}
+use Rattle.gms_grammar.specs.declared.lexeme.Lexeme.{Lexeme}
+use Rattle.gms_grammar.specs.declared.item.Item.{Item}
+use Rattle.gms_grammar.specs.declared.item.Item.TheVariants.{Number, Name, Enters, Lists, Applies, Groups, Raises, Signs, Joins}
 use Rattle.gms_read.specs.declared.shape.Shape.{Shape}
 use Rattle.gms_read.specs.declared.shape.Shape.TheVariants.{One, Awaiting, Powered, Other}
-use Rattle.gms_read.specs.Grammar.{Written, numeral, name, call, listed, grouped, raised, signed, joined}
-use Rattle.gms_read.specs.Items.{written_items}
+use Rattle.gms_grammar.specs.Grammar.{Written, numeral, name, call, listed, grouped, raised, signed, joined}
+use Rattle.gms_grammar.specs.Items.{written_items}
 use Rattle.gms_read.specs.Rules.{is_exponent, is_one_argument, is_power_of, is_power, is_function}
 use Rattle.gms_read.specs.Shapes.{closes, depth_behind, shape_behind, shape_from, accepts}
-use Rattle.gms_read.proofs.Formed.{IsFormed}
+use Rattle.gms_grammar.proofs.Formed.{IsFormed}
 
 pub ruleset exponents = (to_z-of_z)
 

@@ -15,20 +15,20 @@ use Rattle.emp_lex.specs.Tokens.{IsTokenList, IsFirstFault, IsTooWide, past, sta
 use Rattle.emp_lex.specs.Forms.{HasForm, IsFormed}
 use Rattle.emp_lex.proofs.TokenBytes.{tokens_formed}
 use Rattle.emp_lex.proofs.Existing.{numeral_exists, list_or_fault}
-use Rattle.gms_read.specs.declared.lexeme.Sort.{Sort}
-use Rattle.gms_read.specs.declared.lexeme.Sort.TheVariants.{Numeral, Text, Relation}
-use Rattle.gms_read.specs.declared.lexeme.Lexeme.{Lexeme}
-use Rattle.gms_read.specs.declared.item.Item.{Item}
-use Rattle.gms_read.specs.declared.fault.ModelFault.{ModelFault}
-use Rattle.gms_read.specs.declared.fault.ModelFault.TheVariants.{Lex, Syntax, TooLarge}
-use Rattle.gms_read.specs.Lexemes.{IsSort, IsLexeme, AreLexemes, word_sort, relation_of, symbol_sort}
-use Rattle.gms_read.specs.Nesting.{too_deep}
+use Rattle.gms_grammar.specs.declared.lexeme.Sort.{Sort}
+use Rattle.gms_grammar.specs.declared.lexeme.Sort.TheVariants.{Numeral, Text, Relation}
+use Rattle.gms_grammar.specs.declared.lexeme.Lexeme.{Lexeme}
+use Rattle.gms_grammar.specs.declared.item.Item.{Item}
+use Rattle.gms_grammar.specs.declared.fault.ModelFault.{ModelFault}
+use Rattle.gms_grammar.specs.declared.fault.ModelFault.TheVariants.{Lex, Syntax, TooLarge}
+use Rattle.gms_grammar.specs.Lexemes.{IsSort, IsLexeme, AreLexemes, word_sort, relation_of, symbol_sort}
+use Rattle.gms_grammar.specs.Nesting.{too_deep}
 use Rattle.gms_read.specs.Rules.{whole_meaning}
-use Rattle.gms_read.specs.Steps.{AreItems}
+use Rattle.gms_grammar.specs.Steps.{AreItems}
 use Rattle.gms_read.specs.Texts.{HasLexemes, HasStatements, IsModelText, HasFault}
-use Rattle.gms_read.proofs.Sorts.{IsNarrow, tokens_narrow}
+use Rattle.gms_grammar.proofs.Sorts.{IsNarrow, tokens_narrow}
 use Rattle.gms_read.proofs.Reading.{rule_fault, meaning_rule}
-use Rattle.gms_read.proofs.Places.{Judged, right, wrong, judge}
+use Rattle.gms_grammar.proofs.Places.{Judged, right, wrong, judge}
 
 -- ---- lexemes
 sort_exists : (kind : TokenKind) (bs : List ℕ) → HasForm kind bs → (IsTooWide kind bs → ⊥) → (s : Sort) × IsSort kind bs s

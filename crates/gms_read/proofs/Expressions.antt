@@ -9,24 +9,24 @@ use Rattle.emp_ast.specs.declared.tree.Node.TheVariants.{Neg, Power}
 use Rattle.emp_ast.specs.Expression.{Expression, number, variable, joined as joined_with, power}
 use Rattle.emp_ast.specs.Nodes.{size, root, nodes_from, join_node}
 use Rattle.emp_ast.proofs.Trees.{length_nodes}
-use Rattle.gms_read.specs.declared.lexeme.Word.TheVariants.{Square, Power as PowerWord}
-use Rattle.gms_read.specs.declared.lexeme.Sign.{Sign}
-use Rattle.gms_read.specs.declared.lexeme.Sign.TheVariants.{Plus, Minus}
-use Rattle.gms_read.specs.declared.lexeme.Sort.{Sort}
-use Rattle.gms_read.specs.declared.lexeme.Sort.TheVariants.{Name as IsName}
-use Rattle.gms_read.specs.declared.lexeme.Lexeme.{Lexeme}
-use Rattle.gms_read.specs.declared.item.Item.{Item}
-use Rattle.gms_read.specs.declared.item.Item.TheVariants.{Number, Enters, Lists, Applies, Groups, Raises, Signs, Joins}
-use Rattle.gms_read.specs.declared.fault.ModelFault.{ModelFault}
-use Rattle.gms_read.specs.declared.fault.ModelFault.TheVariants.{Undeclared, Function}
+use Rattle.gms_grammar.specs.declared.lexeme.Word.TheVariants.{Square, Power as PowerWord}
+use Rattle.gms_grammar.specs.declared.lexeme.Sign.{Sign}
+use Rattle.gms_grammar.specs.declared.lexeme.Sign.TheVariants.{Plus, Minus}
+use Rattle.gms_grammar.specs.declared.lexeme.Sort.{Sort}
+use Rattle.gms_grammar.specs.declared.lexeme.Sort.TheVariants.{Name as IsName}
+use Rattle.gms_grammar.specs.declared.lexeme.Lexeme.{Lexeme}
+use Rattle.gms_grammar.specs.declared.item.Item.{Item}
+use Rattle.gms_grammar.specs.declared.item.Item.TheVariants.{Number, Enters, Lists, Applies, Groups, Raises, Signs, Joins}
+use Rattle.gms_grammar.specs.declared.fault.ModelFault.{ModelFault}
+use Rattle.gms_grammar.specs.declared.fault.ModelFault.TheVariants.{Undeclared, Function}
 use Rattle.gms_read.specs.declared.progress.Second.TheVariants.{Absent}
 use Rattle.gms_read.specs.declared.progress.Progress.{Progress}
-use Rattle.gms_read.specs.Grammar.{Written, numeral, name, call, listed, grouped, raised, signed, joined}
-use Rattle.gms_read.specs.Items.{written_items}
+use Rattle.gms_grammar.specs.Grammar.{Written, numeral, name, call, listed, grouped, raised, signed, joined}
+use Rattle.gms_grammar.specs.Items.{written_items}
 use Rattle.gms_read.specs.Rules.{or_else, fault_where, is_none, is_exponent, exponent, or_zero, is_one_argument, is_power_of, is_function, second_exponent, variable_of, expression_fault, meaning, places}
 use Rattle.gms_read.specs.Sides.{name_by, raise_by}
 use Rattle.gms_read.specs.Performing.{with_side, on_side, next_step, item_step, all_steps}
-use Rattle.gms_read.proofs.Formed.{IsFormed}
+use Rattle.gms_grammar.proofs.Formed.{IsFormed}
 use Rattle.gms_read.proofs.Arguments.{accepted}
 
 -- ---- faults

@@ -9,7 +9,7 @@ use Rattle.std.proofs.lemmas.List.{drop_more, drop_all, take_more, take_all}
 use Rattle.emp_num.specs.Orders.{IsOrder}
 use Rattle.gms_read.specs.declared.draft.DraftEquation.{DraftEquation}
 use Rattle.gms_read.specs.declared.draft.DraftVariable.{DraftVariable}
-use Rattle.gms_read.specs.declared.fault.ModelFault.TheVariants.{Undefined, BoundsCross}
+use Rattle.gms_grammar.specs.declared.fault.ModelFault.TheVariants.{Undefined, BoundsCross}
 use Rattle.gms_read.specs.Rules.{is_none, undefined_from, finished_equation, finished_equations, crosses, crossing_from, end_of, finished_variables}
 
 -- ---- equations

@@ -5,18 +5,18 @@ use Rattle.emp_ast.specs.declared.model.Model.{Model}
 use Rattle.emp_lex.specs.declared.fault.LexFault.{LexFault}
 use Rattle.emp_lex.specs.Tokens.{IsFirstFault, past, start}
 use Rattle.emp_lex.proofs.Lexing.{one_fault as one_token_fault}
-use Rattle.gms_read.specs.declared.lexeme.Lexeme.{Lexeme}
-use Rattle.gms_read.specs.declared.fault.ModelFault.{ModelFault}
-use Rattle.gms_read.specs.declared.fault.ModelFault.TheVariants.{Lex, Syntax, Undeclared, Twice, Discrete, Attribute, Function, TooLarge, Undefined, BoundsCross, NoMemory}
-use Rattle.gms_read.specs.Nesting.{too_deep}
-use Rattle.gms_read.specs.Grammar.{Statement, IsFile}
-use Rattle.gms_read.specs.Syntax.{IsWrongAt}
+use Rattle.gms_grammar.specs.declared.lexeme.Lexeme.{Lexeme}
+use Rattle.gms_grammar.specs.declared.fault.ModelFault.{ModelFault}
+use Rattle.gms_grammar.specs.declared.fault.ModelFault.TheVariants.{Lex, Syntax, Undeclared, Twice, Discrete, Attribute, Function, TooLarge, Undefined, BoundsCross, NoMemory}
+use Rattle.gms_grammar.specs.Nesting.{too_deep}
+use Rattle.gms_grammar.specs.Grammar.{Statement, IsFile}
+use Rattle.gms_grammar.specs.Syntax.{IsWrongAt}
 use Rattle.gms_read.specs.Rules.{whole_meaning, whole_meaning_by}
 use Rattle.gms_read.specs.Texts.{HasLexemes, HasStatements, Gives, IsModelText, IsTooDeep, IsUngrammatical, HasFault}
 use Rattle.gms_read.specs.Laws.{OneModel}
 use Rattle.gms_read.proofs.OneText.{one_lexemes, none_with_fault}
-use Rattle.gms_read.proofs.Agree.{one_items}
-use Rattle.gms_read.proofs.Places.{one_place, not_wrong}
+use Rattle.gms_grammar.proofs.Agree.{one_items}
+use Rattle.gms_grammar.proofs.Places.{one_place, not_wrong}
 use Rattle.gms_read.proofs.Existing.{model_or_fault}
 use Rattle.gms_read.proofs.Performed.{same_drafts}
 

@@ -12,10 +12,10 @@ use Rattle.emp_lex.specs.declared.token.TokenKind.TheVariants.{Name as IsName, N
 use Rattle.emp_lex.specs.declared.fault.LexFault.{LexFault}
 use Rattle.emp_lex.specs.Tokens.{IsFirstFault}
 use Rattle.emp_lex.proofs.Lexing.{one_list, not_both}
-use Rattle.gms_read.specs.declared.lexeme.Sort.{Sort}
-use Rattle.gms_read.specs.declared.lexeme.Sort.TheVariants.{Numeral}
-use Rattle.gms_read.specs.declared.lexeme.Lexeme.{Lexeme}
-use Rattle.gms_read.specs.Lexemes.{spelling, IsSort, IsLexeme, AreLexemes}
+use Rattle.gms_grammar.specs.declared.lexeme.Sort.{Sort}
+use Rattle.gms_grammar.specs.declared.lexeme.Sort.TheVariants.{Numeral}
+use Rattle.gms_grammar.specs.declared.lexeme.Lexeme.{Lexeme}
+use Rattle.gms_grammar.specs.Lexemes.{spelling, IsSort, IsLexeme, AreLexemes}
 use Rattle.gms_read.specs.Texts.{HasLexemes}
 
 -- ---- a numeral has one value

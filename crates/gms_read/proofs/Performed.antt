@@ -8,23 +8,23 @@ use Rattle.emp_ast.specs.Nodes.{root, nodes_from}
 use Rattle.emp_ast.specs.Trees.{tree_from}
 use Rattle.emp_ast.proofs.Trees.{tree_from_is}
 use Rattle.emp_ast.specs.declared.model.Sense.{Sense}
-use Rattle.gms_read.specs.declared.lexeme.Domain.TheVariants.{Free, Positive, Negative, Discrete as DiscreteWord}
-use Rattle.gms_read.specs.declared.lexeme.Lexeme.{Lexeme}
-use Rattle.gms_read.specs.declared.item.Item.{Item}
-use Rattle.gms_read.specs.declared.item.Item.TheVariants.{Variable, Equation, Relates, Ends, Aims}
+use Rattle.gms_grammar.specs.declared.lexeme.Domain.TheVariants.{Free, Positive, Negative, Discrete as DiscreteWord}
+use Rattle.gms_grammar.specs.declared.lexeme.Lexeme.{Lexeme}
+use Rattle.gms_grammar.specs.declared.item.Item.{Item}
+use Rattle.gms_grammar.specs.declared.item.Item.TheVariants.{Variable, Equation, Relates, Ends, Aims}
 use Rattle.gms_read.specs.declared.draft.Draft.{Draft}
-use Rattle.gms_read.specs.declared.fault.ModelFault.{ModelFault}
-use Rattle.gms_read.specs.declared.fault.ModelFault.TheVariants.{Undeclared, NoMemory}
+use Rattle.gms_grammar.specs.declared.fault.ModelFault.{ModelFault}
+use Rattle.gms_grammar.specs.declared.fault.ModelFault.TheVariants.{Undeclared, NoMemory}
 use Rattle.gms_read.specs.declared.progress.Second.TheVariants.{Absent}
 use Rattle.gms_read.specs.declared.progress.Side.{Side}
 use Rattle.gms_read.specs.declared.progress.Progress.{Progress}
-use Rattle.gms_read.specs.Grammar.{Written, Statement, empty, variables, equations, definition, setting, model, solve, IsFile}
-use Rattle.gms_read.specs.Items.{written_items, statement_items, items_of}
+use Rattle.gms_grammar.specs.Grammar.{Written, Statement, empty, variables, equations, definition, setting, model, solve, IsFile}
+use Rattle.gms_grammar.specs.Items.{written_items, statement_items, items_of}
 use Rattle.gms_read.specs.Steps.{DraftsAll}
 use Rattle.gms_read.specs.Rules.{Step, and_then, or_else, unless_fault, or_zero, equation_of, variable_of, declared_as, is_model, expression_fault, meaning, places, tree_of, definition_fault, with_definition, define, declare_variable, declare_equation, declare_model, declare_all, set_by, with_goal, aim_at, aim, after, after_all, nothing_yet}
 use Rattle.gms_read.specs.Sides.{no_side}
 use Rattle.gms_read.specs.Performing.{idle, with_equation, define_by, ended, on_draft, begun_by, solved, item_step, next_step, all_steps}
-use Rattle.gms_read.proofs.Formed.{IsFormed, IsFormedStatement, AreFormed, formed_file}
+use Rattle.gms_grammar.proofs.Formed.{IsFormed, IsFormedStatement, AreFormed, formed_file}
 use Rattle.gms_read.proofs.Expressions.{unless, read_written}
 
 -- a step, and what comes behind it

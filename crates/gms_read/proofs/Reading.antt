@@ -6,27 +6,28 @@ use Rattle.emp_ast.specs.declared.model.Model.{Model as WholeModel}
 use Rattle.emp_ast.specs.declared.model.Sense.{Sense}
 use Rattle.emp_lex.specs.declared.token.Token.{Token}
 use Rattle.emp_lex.specs.Tokens.{IsTokenList}
-use Rattle.gms_read.specs.declared.lexeme.Lexeme.{Lexeme}
-use Rattle.gms_read.specs.declared.lexeme.Domain.{Domain}
-use Rattle.gms_read.specs.declared.lexeme.Domain.TheVariants.{Free, Positive, Negative, Discrete as DiscreteWord}
-use Rattle.gms_read.specs.declared.lexeme.Sort.{Sort}
-use Rattle.gms_read.specs.declared.lexeme.Sort.TheVariants.{Name}
-use Rattle.gms_read.specs.declared.lexeme.Word.TheVariants.{Low, High, Fixed, Level, Marginal}
-use Rattle.gms_read.specs.declared.item.Item.{Item}
+use Rattle.gms_grammar.specs.declared.lexeme.Lexeme.{Lexeme}
+use Rattle.gms_grammar.specs.declared.lexeme.Domain.{Domain}
+use Rattle.gms_grammar.specs.declared.lexeme.Domain.TheVariants.{Free, Positive, Negative, Discrete as DiscreteWord}
+use Rattle.gms_grammar.specs.declared.lexeme.Sort.{Sort}
+use Rattle.gms_grammar.specs.declared.lexeme.Sort.TheVariants.{Name}
+use Rattle.gms_grammar.specs.declared.lexeme.Word.TheVariants.{Low, High, Fixed, Level, Marginal}
+use Rattle.gms_grammar.specs.declared.item.Item.{Item}
 use Rattle.gms_read.specs.declared.draft.Draft.{Draft}
 use Rattle.gms_read.specs.declared.draft.DraftVariable.{DraftVariable}
-use Rattle.gms_read.specs.declared.draft.Limit.{Limit}
+use Rattle.gms_grammar.specs.declared.limit.Limit.{Limit}
 use Rattle.gms_read.specs.declared.table.Named.{Named}
 use Rattle.gms_read.specs.declared.table.Named.TheVariants.{Variable as VariableName, Equation as EquationName, Model as ModelName}
-use Rattle.gms_read.specs.declared.fault.ModelFault.{ModelFault}
-use Rattle.gms_read.specs.declared.fault.ModelFault.TheVariants.{Lex, Syntax, Undeclared, Twice, Discrete, Attribute, Function, TooLarge, Undefined, BoundsCross, NoMemory}
+use Rattle.gms_grammar.specs.declared.fault.ModelFault.{ModelFault}
+use Rattle.gms_grammar.specs.declared.fault.ModelFault.TheVariants.{Lex, Syntax, Undeclared, Twice, Discrete, Attribute, Function, TooLarge, Undefined, BoundsCross, NoMemory}
 use Rattle.gms_read.specs.declared.draft.DraftEquation.{DraftEquation}
-use Rattle.gms_read.specs.Lexemes.{AreLexemes}
-use Rattle.gms_read.specs.Nesting.{too_deep}
-use Rattle.gms_read.specs.Grammar.{Written, numeral, name, call, listed, grouped, raised, signed, joined, Statement, empty, variables, equations, definition, setting, model, solve}
+use Rattle.gms_grammar.specs.Lexemes.{AreLexemes}
+use Rattle.gms_grammar.specs.Nesting.{too_deep}
+use Rattle.gms_grammar.specs.Grammar.{Written, numeral, name, call, listed, grouped, raised, signed, joined, Statement, empty, variables, equations, definition, setting, model, solve}
 use Rattle.gms_read.specs.Rules.{Step, most, is_none, has_sign, first_low, first_high, variable_at, with_variable, add_variable, add_equation, add_model, is_infinite, with_low, with_high, is_model, crosses, and_then, or_else, unless_fault, fault_where, expression_fault, declare_by, declare_variable, declare_equation, declare_all, discrete_fault, definition_fault, set_variable, set_equation, set_by, aim_at, aim, after, after_all, nothing_yet, undefined_from, crossing_from, finish_by, finish, whole_meaning_by, whole_meaning, declared_as, variable_of, equation_of}
 use Rattle.gms_read.specs.Texts.{HasLexemes, Gives, IsModelText, HasFault, RefusesModel}
-use Rattle.gms_read.specs.Steps.{AreItems, DraftsAll, FinishesAs}
+use Rattle.gms_grammar.specs.Steps.{AreItems}
+use Rattle.gms_read.specs.Steps.{DraftsAll, FinishesAs}
 
 -- ---- the faults that rules have
 -- no fault of tokens or of the grammar

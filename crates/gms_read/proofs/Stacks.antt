@@ -1,10 +1,5 @@
 -- The top of a stack is the last of its vector.
-use Rattle.std.proofs.Common.{◌≡◌, List, [], ◌∷◌, ◌++◌, reverse}
-use Rattle.std.proofs.lemmas.List.{reverse-append, reverse-reverse}
-
-pub reverse_push : {X : Type 0} (xs : List X) (x : X) → reverse (xs ++ x ∷ []) ≡ x ∷ reverse xs
-reverse_push xs x = reverse-append xs (x ∷ [])
-
-pub ruleset stacking = (reverse_push)
+use Rattle.std.proofs.lemmas.List.{reverse-reverse}
+use Rattle.gms_grammar.proofs.Stacks.{reverse_push}
 
 pub ruleset turning = (reverse_push, reverse-reverse)

@@ -4,18 +4,18 @@ use Rattle.emp_num.specs.declared.frac.Frac.{Frac}
 use Rattle.emp_list.specs.Case.{lower}
 use Rattle.emp_ast.specs.declared.tree.Place.{Place}
 use Rattle.emp_ast.specs.Expression.{Expression, number, variable, negated, joined as joined_with, power}
-use Rattle.gms_read.specs.declared.lexeme.Word.TheVariants.{Square, Power as PowerWord}
-use Rattle.gms_read.specs.declared.lexeme.Sign.TheVariants.{Plus, Minus}
-use Rattle.gms_read.specs.declared.lexeme.Sort.{Sort}
-use Rattle.gms_read.specs.declared.lexeme.Sort.TheVariants.{Name}
-use Rattle.gms_read.specs.declared.lexeme.Lexeme.{Lexeme}
+use Rattle.gms_grammar.specs.declared.lexeme.Word.TheVariants.{Square, Power as PowerWord}
+use Rattle.gms_grammar.specs.declared.lexeme.Sign.TheVariants.{Plus, Minus}
+use Rattle.gms_grammar.specs.declared.lexeme.Sort.{Sort}
+use Rattle.gms_grammar.specs.declared.lexeme.Sort.TheVariants.{Name}
+use Rattle.gms_grammar.specs.declared.lexeme.Lexeme.{Lexeme}
 use Rattle.gms_read.specs.declared.draft.Draft.{Draft}
 use Rattle.gms_read.specs.declared.table.Named.{Named}
 use Rattle.gms_read.specs.declared.table.Named.TheVariants.{Variable as VariableName, Equation as EquationName, Model as ModelName}
-use Rattle.gms_read.specs.declared.fault.ModelFault.{ModelFault}
-use Rattle.gms_read.specs.declared.fault.ModelFault.TheVariants.{Undeclared, Function}
-use Rattle.gms_read.specs.Lexemes.{spelling}
-use Rattle.gms_read.specs.Grammar.{Written, numeral, name, call, listed, grouped, raised, signed, joined}
+use Rattle.gms_grammar.specs.declared.fault.ModelFault.{ModelFault}
+use Rattle.gms_grammar.specs.declared.fault.ModelFault.TheVariants.{Undeclared, Function}
+use Rattle.gms_grammar.specs.Lexemes.{spelling}
+use Rattle.gms_grammar.specs.Grammar.{Written, numeral, name, call, listed, grouped, raised, signed, joined}
 
 -- ---- faults
 -- the first fault

@@ -1,7 +1,7 @@
 -- What the layers above know of model texts.
 use Rattle.std.specs.Prelude.{◌≡◌, ◌⊎◌, ℕ, List}
 use Rattle.emp_ast.specs.declared.model.Model.{Model}
-use Rattle.gms_read.specs.declared.fault.ModelFault.{ModelFault}
+use Rattle.gms_grammar.specs.declared.fault.ModelFault.{ModelFault}
 use Rattle.gms_read.specs.Texts.{IsModelText, HasFault}
 
 -- each text stands for a model or has a fault, one of them, and not both

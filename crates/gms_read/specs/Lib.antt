@@ -1,15 +1,9 @@
 pub mod Expressions
-pub mod Grammar
-pub mod Items
-pub mod Lexemes
-pub mod Machine
-pub mod Nesting
 pub mod Performing
 pub mod Placed
 pub mod Rules
 pub mod Shapes
 pub mod Sides
 pub mod Steps
-pub mod Syntax
 pub mod Texts
 pub mod Laws

@@ -4,12 +4,12 @@ use Rattle.emp_ast.specs.declared.tree.Tree.{Tree}
 use Rattle.emp_ast.specs.Trees.{tree_from}
 use Rattle.emp_ast.specs.declared.model.Relation.{Relation}
 use Rattle.emp_ast.specs.declared.model.Relation.TheVariants.{Nothing}
-use Rattle.gms_read.specs.declared.lexeme.Lexeme.{Lexeme}
-use Rattle.gms_read.specs.declared.item.Item.{Item}
-use Rattle.gms_read.specs.declared.item.Item.TheVariants.{Begins, Variable, Equation, Defines, Relates, Ends, Number, Name, Enters, Lists, Applies, Groups, Raises, Signs, Joins, Sets, Model, Solves, Aims}
+use Rattle.gms_grammar.specs.declared.lexeme.Lexeme.{Lexeme}
+use Rattle.gms_grammar.specs.declared.item.Item.{Item}
+use Rattle.gms_grammar.specs.declared.item.Item.TheVariants.{Begins, Variable, Equation, Defines, Relates, Ends, Number, Name, Enters, Lists, Applies, Groups, Raises, Signs, Joins, Sets, Model, Solves, Aims}
 use Rattle.gms_read.specs.declared.draft.Draft.{Draft}
-use Rattle.gms_read.specs.declared.fault.ModelFault.{ModelFault}
-use Rattle.gms_read.specs.declared.fault.ModelFault.TheVariants.{Undeclared, NoMemory}
+use Rattle.gms_grammar.specs.declared.fault.ModelFault.{ModelFault}
+use Rattle.gms_grammar.specs.declared.fault.ModelFault.TheVariants.{Undeclared, NoMemory}
 use Rattle.gms_read.specs.declared.progress.Second.TheVariants.{Awaited}
 use Rattle.gms_read.specs.declared.progress.Side.{Side}
 use Rattle.gms_read.specs.declared.progress.Progress.{Progress}

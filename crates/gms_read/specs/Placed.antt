@@ -3,9 +3,9 @@ use Rattle.std.proofs.Common.{◌≡◌, ℕ, ◌+◌, List, [], ◌∷◌, ◌+
 use Rattle.emp_ast.specs.declared.tree.Place.{Place}
 use Rattle.emp_ast.specs.Nodes.{size, nodes_from}
 use Rattle.emp_ast.proofs.Trees.{length_nodes}
-use Rattle.gms_read.specs.declared.lexeme.Sign.TheVariants.{Plus, Minus}
+use Rattle.gms_grammar.specs.declared.lexeme.Sign.TheVariants.{Plus, Minus}
 use Rattle.gms_read.specs.declared.draft.Draft.{Draft}
-use Rattle.gms_read.specs.Grammar.{Written, numeral, name, call, listed, grouped, raised, signed, joined}
+use Rattle.gms_grammar.specs.Grammar.{Written, numeral, name, call, listed, grouped, raised, signed, joined}
 use Rattle.gms_read.specs.Expressions.{meaning, places}
 
 one_more : (ps : List Place) (p : Place) (n : ℕ) → length ps ≡ n → length (ps ++ p ∷ []) ≡ n + 1

@@ -15,24 +15,24 @@ use Rattle.emp_ast.specs.declared.model.Sense.{Sense}
 use Rattle.emp_ast.specs.declared.model.Model.{Model}
 use Rattle.emp_ast.specs.Nodes.{nodes_from}
 use Rattle.emp_ast.proofs.Nodes.{postorder_of}
-use Rattle.gms_read.specs.declared.lexeme.Word.TheVariants.{Low, High, Fixed, Level, Marginal}
-use Rattle.gms_read.specs.declared.lexeme.Domain.{Domain}
-use Rattle.gms_read.specs.declared.lexeme.Domain.TheVariants.{Free, Positive, Negative, Discrete as DiscreteWord}
-use Rattle.gms_read.specs.declared.lexeme.Sort.{Sort}
-use Rattle.gms_read.specs.declared.lexeme.Sort.TheVariants.{Name}
-use Rattle.gms_read.specs.declared.lexeme.Lexeme.{Lexeme}
-use Rattle.gms_read.specs.declared.draft.Limit.{Limit}
-use Rattle.gms_read.specs.declared.draft.Limit.TheVariants.{Below, At, Above}
+use Rattle.gms_grammar.specs.declared.lexeme.Word.TheVariants.{Low, High, Fixed, Level, Marginal}
+use Rattle.gms_grammar.specs.declared.lexeme.Domain.{Domain}
+use Rattle.gms_grammar.specs.declared.lexeme.Domain.TheVariants.{Free, Positive, Negative, Discrete as DiscreteWord}
+use Rattle.gms_grammar.specs.declared.lexeme.Sort.{Sort}
+use Rattle.gms_grammar.specs.declared.lexeme.Sort.TheVariants.{Name}
+use Rattle.gms_grammar.specs.declared.lexeme.Lexeme.{Lexeme}
+use Rattle.gms_grammar.specs.declared.limit.Limit.{Limit}
+use Rattle.gms_grammar.specs.declared.limit.Limit.TheVariants.{Below, At, Above}
 use Rattle.gms_read.specs.declared.draft.DraftVariable.{DraftVariable}
 use Rattle.gms_read.specs.declared.draft.Definition.{Definition}
 use Rattle.gms_read.specs.declared.draft.DraftEquation.{DraftEquation}
 use Rattle.gms_read.specs.declared.draft.Draft.{Draft}
 use Rattle.gms_read.specs.declared.table.Named.{Named}
 use Rattle.gms_read.specs.declared.table.Named.TheVariants.{Variable as VariableName, Equation as EquationName, Model as ModelName}
-use Rattle.gms_read.specs.declared.fault.ModelFault.{ModelFault}
-use Rattle.gms_read.specs.declared.fault.ModelFault.TheVariants.{Undeclared, Twice, Discrete, Attribute, TooLarge, Undefined, BoundsCross}
-use Rattle.gms_read.specs.Lexemes.{spelling}
-use Rattle.gms_read.specs.Grammar.{Written, Statement, empty, variables, equations, definition, setting, model, solve}
+use Rattle.gms_grammar.specs.declared.fault.ModelFault.{ModelFault}
+use Rattle.gms_grammar.specs.declared.fault.ModelFault.TheVariants.{Undeclared, Twice, Discrete, Attribute, TooLarge, Undefined, BoundsCross}
+use Rattle.gms_grammar.specs.Lexemes.{spelling}
+use Rattle.gms_grammar.specs.Grammar.{Written, Statement, empty, variables, equations, definition, setting, model, solve}
 pub use Rattle.gms_read.specs.Expressions.{or_else, fault_where, entry_of, declared_as, variable_in, equation_in, variable_of, equation_of, is_model_entry, is_model, is_none, small_whole, exponent, is_exponent, is_one_argument, is_power_of, is_power, is_function, expression_fault, or_zero, second_exponent, meaning, places}
 use Rattle.gms_read.specs.Placed.{placed}
 

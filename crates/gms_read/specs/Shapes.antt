@@ -1,10 +1,10 @@
 -- Which arguments a function has, as the items behind its name tell.
 use Rattle.std.specs.Prelude.{ℕ, ◌+◌, ◌-◌, Bool, true, false, cond, nat_eq, List, [], ◌∷◌}
-use Rattle.gms_read.specs.declared.lexeme.Word.TheVariants.{Square, Power as PowerWord}
-use Rattle.gms_read.specs.declared.lexeme.Sort.{Sort}
-use Rattle.gms_read.specs.declared.lexeme.Sort.TheVariants.{Name as IsName}
-use Rattle.gms_read.specs.declared.item.Item.{Item}
-use Rattle.gms_read.specs.declared.item.Item.TheVariants.{Number, Enters, Lists, Applies}
+use Rattle.gms_grammar.specs.declared.lexeme.Word.TheVariants.{Square, Power as PowerWord}
+use Rattle.gms_grammar.specs.declared.lexeme.Sort.{Sort}
+use Rattle.gms_grammar.specs.declared.lexeme.Sort.TheVariants.{Name as IsName}
+use Rattle.gms_grammar.specs.declared.item.Item.{Item}
+use Rattle.gms_grammar.specs.declared.item.Item.TheVariants.{Number, Enters, Lists, Applies}
 use Rattle.gms_read.specs.declared.shape.Shape.{Shape}
 use Rattle.gms_read.specs.declared.shape.Shape.TheVariants.{One, Awaiting, Powered, Other}
 use Rattle.gms_read.specs.Rules.{is_exponent}

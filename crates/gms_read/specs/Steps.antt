@@ -1,28 +1,14 @@
--- What the steps of the reader give.
+-- What performing and finishing give.
 use Rattle.std.specs.Prelude.{◌≡◌, ◌⊎◌, ℕ, List, Result, Ok, Err}
-use Rattle.emp_lex.specs.declared.fault.LexFault.{LexFault}
-use Rattle.emp_lex.specs.declared.fault.LexFault.TheVariants.{BadByte, LongName, OpenBlock, Dollar, Number, NoMemory as NoMemoryForTokens}
-use Rattle.gms_read.specs.declared.lexeme.Lexeme.{Lexeme}
-use Rattle.gms_read.specs.declared.item.Item.{Item}
-use Rattle.gms_read.specs.declared.draft.Draft.{Draft}
 use Rattle.emp_ast.specs.declared.model.Model.{Model}
-use Rattle.gms_read.specs.declared.fault.ModelFault.{ModelFault}
-use Rattle.gms_read.specs.declared.fault.ModelFault.TheVariants.{Lex, Syntax, NoMemory}
-use Rattle.emp_ast.specs.declared.tree.Place.{Place}
-use Rattle.gms_read.specs.Grammar.{Statement, IsFile}
-use Rattle.gms_read.specs.Syntax.{IsWrongAt}
-use Rattle.gms_read.specs.Items.{items_of}
+use Rattle.gms_grammar.specs.declared.lexeme.Lexeme.{Lexeme}
+use Rattle.gms_grammar.specs.declared.item.Item.{Item}
+use Rattle.gms_grammar.specs.declared.fault.ModelFault.{ModelFault}
+use Rattle.gms_grammar.specs.declared.fault.ModelFault.TheVariants.{NoMemory}
+use Rattle.gms_grammar.specs.Grammar.{Statement, IsFile}
+use Rattle.gms_grammar.specs.Items.{items_of}
+use Rattle.gms_read.specs.declared.draft.Draft.{Draft}
 use Rattle.gms_read.specs.Rules.{after_all, nothing_yet}
-
--- the items are those of statements for which the lexemes stand
-pub record AreItems (ts : List Lexeme) (items : List Item) : Type 0 where
-  pub statements : List Statement
-  pub file : IsFile ts statements
-  pub are : items ≡ items_of statements
-
--- the lexemes stop beginning a grammatical text at the place, or memory is wanted
-abbrev pub RefusesLexemes : List Lexeme → Place → ModelFault → Type 0
-RefusesLexemes ts end f = (f ≡ NoMemory) ⊎ ((p : Place) × (f ≡ Syntax p) × IsWrongAt ts end p)
 
 -- whatever statements of a file the items are of, the draft is what they give, or the fault is the first that they have
 abbrev pub DraftsAll : List ℕ → List Item → Result Draft ModelFault → Type 0
@@ -33,12 +19,3 @@ DraftsAll text items (Err f) = (f ≡ NoMemory) ⊎ ((ts : List Lexeme) (ss : Li
 abbrev pub FinishesAs : Result Model ModelFault → Result Model ModelFault → Type 0
 FinishesAs r (Ok m) = r ≡ Ok m
 FinishesAs r (Err f) = (f ≡ NoMemory) ⊎ (r ≡ Err f)
-
--- what the reader answers to a fault of the lexer
-abbrev pub of_lexer : LexFault → ModelFault
-of_lexer (BadByte p) = Lex (BadByte p)
-of_lexer (LongName p) = Lex (LongName p)
-of_lexer (OpenBlock p) = Lex (OpenBlock p)
-of_lexer (Dollar p) = Lex (Dollar p)
-of_lexer (Number p) = Lex (Number p)
-of_lexer NoMemoryForTokens = NoMemory

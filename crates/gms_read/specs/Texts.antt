@@ -4,13 +4,13 @@ use Rattle.emp_ast.specs.declared.tree.Place.{Place}
 use Rattle.emp_ast.specs.declared.model.Model.{Model}
 use Rattle.emp_lex.specs.declared.token.Token.{Token}
 use Rattle.emp_lex.specs.Tokens.{IsTokenList, IsFirstFault, past, start}
-use Rattle.gms_read.specs.declared.lexeme.Lexeme.{Lexeme}
-use Rattle.gms_read.specs.declared.fault.ModelFault.{ModelFault}
-use Rattle.gms_read.specs.declared.fault.ModelFault.TheVariants.{Lex, Syntax, Undeclared, Twice, Discrete, Attribute, Function, TooLarge, Undefined, BoundsCross, NoMemory}
-use Rattle.gms_read.specs.Lexemes.{AreLexemes}
-use Rattle.gms_read.specs.Nesting.{too_deep}
-use Rattle.gms_read.specs.Grammar.{Statement, IsFile}
-use Rattle.gms_read.specs.Syntax.{IsWrongAt}
+use Rattle.gms_grammar.specs.declared.lexeme.Lexeme.{Lexeme}
+use Rattle.gms_grammar.specs.declared.fault.ModelFault.{ModelFault}
+use Rattle.gms_grammar.specs.declared.fault.ModelFault.TheVariants.{Lex, Syntax, Undeclared, Twice, Discrete, Attribute, Function, TooLarge, Undefined, BoundsCross, NoMemory}
+use Rattle.gms_grammar.specs.Lexemes.{AreLexemes}
+use Rattle.gms_grammar.specs.Nesting.{too_deep}
+use Rattle.gms_grammar.specs.Grammar.{Statement, IsFile}
+use Rattle.gms_grammar.specs.Syntax.{IsWrongAt}
 use Rattle.gms_read.specs.Rules.{whole_meaning}
 
 -- the text is cut into the lexemes

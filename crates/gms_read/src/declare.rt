@@ -3,15 +3,16 @@ ghost use Rattle.std.specs.Prelude.{◌≡◌, ◌<◌, length, None, Ok, MatchR
 ghost use Rattle.emp_num.specs.Whole.{whole};
 ghost use Rattle.gms_read.specs.Rules.{first_low, first_high, has_sign, is_infinite, variable_in, equation_in, is_model_entry};
 
-use crate::draft::{Definition, Draft, DraftEquation, DraftVariable, Limit};
-use crate::fault::ModelFault;
-use crate::lexeme::{Domain, Lexeme, Sort, Word};
+use crate::draft::{Definition, Draft, DraftEquation, DraftVariable};
 use crate::table::{Named, Table};
 use emp_ast::model::{Relation, Sense};
 use emp_ast::tree::{Place, Tree, VarId};
 use emp_list::name::Name;
 use emp_list::seq::Seq;
 use emp_num::frac::Frac;
+use gms_grammar::fault::ModelFault;
+use gms_grammar::lexeme::{Domain, Lexeme, Sort, Word};
+use gms_grammar::limit::Limit;
 use std::alloc::Global;
 
 /// The most variables, and the most equations, of a model.
@@ -97,7 +98,7 @@ fn is_model(found: Option<Named>) -> bool
 
 #[tactic(auto, using(crate::proofs::Declaring::declaring))]
 impl Draft {
-    ghost use Rattle.gms_read.specs.declared.fault.ModelFault.TheVariants.{NoMemory};
+    ghost use Rattle.gms_grammar.specs.declared.fault.ModelFault.TheVariants.{NoMemory};
     ghost use Rattle.gms_read.specs.Rules.{nothing_yet, declared_as, add_variable, restrict, declare_variable, add_equation, declare_equation, declare_model, is_defined, with_sides, with_low, with_high, set_variable, set_by, aim_at, variable_of};
     ghost use Rattle.gms_read.specs.Performing.{Does, define_by, solved};
 

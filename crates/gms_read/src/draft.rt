@@ -4,17 +4,7 @@ use emp_ast::model::{Relation, Sense};
 use emp_ast::tree::{Tree, VarId};
 use emp_list::name::Name;
 use emp_list::seq::Seq;
-use emp_num::frac::Frac;
-
-/// An end of a range, as a setting gives it.
-#[derive(Clone, Copy, Debug)]
-pub enum Limit {
-    /// Minus infinity.
-    Below,
-    At(Frac),
-    /// Plus infinity.
-    Above,
-}
+use gms_grammar::limit::Limit;
 
 /// A variable as far as it is declared and set.
 #[derive(Drop)]

@@ -1,16 +1,17 @@
 //! From a draft to a model.
 ghost use Rattle.std.specs.Prelude.{◌≡◌, int_lt, ◌*ℤ◌, IfOk, MatchResult};
-ghost use Rattle.gms_read.specs.declared.fault.ModelFault.TheVariants.{NoMemory};
+ghost use Rattle.gms_grammar.specs.declared.fault.ModelFault.TheVariants.{NoMemory};
 ghost use Rattle.gms_read.specs.Rules.{undefined_from, crosses, crossing_from, end_of, finished_variables, finished_equations, or_empty, finish};
 ghost use Rattle.gms_read.specs.Steps.{FinishesAs};
 
-use crate::draft::{Draft, DraftEquation, DraftVariable, Limit};
-use crate::fault::ModelFault;
+use crate::draft::{Draft, DraftEquation, DraftVariable};
 use emp_ast::model::{End, Equation, Model, Variable};
 use emp_ast::tree::{EquId, VarId};
 use emp_list::name::Name;
 use emp_list::seq::Seq;
 use emp_num::frac::Frac;
+use gms_grammar::fault::ModelFault;
+use gms_grammar::limit::Limit;
 use std::alloc::{AllocError, Global};
 
 /// The number of a place in a list. No text declares so many that a place has none.

@@ -6,11 +6,11 @@ ghost use Rattle.gms_read.specs.Performing.{Does, idle, item_step, begun, begun_
 
 use crate::declare::{equation_in, variable_in};
 use crate::draft::Draft;
-use crate::fault::ModelFault;
-use crate::item::Item;
-use crate::lexeme::{Domain, Lexeme};
 use crate::progress::{Progress, Second, Side};
 use emp_ast::model::Relation;
+use gms_grammar::fault::ModelFault;
+use gms_grammar::item::Item;
+use gms_grammar::lexeme::{Domain, Lexeme};
 use std::alloc::Global;
 
 impl Progress {

@@ -2,14 +2,14 @@
 ghost use Rattle.std.specs.Prelude.{◌<◌, length, MatchResult};
 ghost use Rattle.gms_read.specs.Texts.{IsModelText, RefusesModel};
 
-use crate::fault::ModelFault;
 use crate::finish::finish;
-use crate::lexemes::lexemes;
-use crate::nesting::too_deep;
-use crate::parse::parse;
 use crate::perform::perform;
 use emp_ast::model::Model;
 use emp_lex::lexer::{end_of, tokens};
+use gms_grammar::fault::ModelFault;
+use gms_grammar::lexemes::lexemes;
+use gms_grammar::nesting::too_deep;
+use gms_grammar::parse::parse;
 use std::alloc::Global;
 
 /// The model for which the text stands, or the first fault of a text that stands for none, as `specs/Texts.antt`

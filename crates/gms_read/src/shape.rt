@@ -4,9 +4,9 @@ ghost use Rattle.gms_read.specs.declared.shape.Shape.TheVariants.{One};
 ghost use Rattle.gms_read.specs.Rules.{exponent};
 ghost use Rattle.gms_read.specs.Shapes.{closes, depth_behind, shape_behind, shape_from, accepts};
 
-use crate::item::Item;
-use crate::lexeme::{Sort, Word};
 use emp_num::frac::Frac;
+use gms_grammar::item::Item;
+use gms_grammar::lexeme::{Sort, Word};
 
 /// The arguments of a function as far as they are seen.
 #[derive(Clone, Copy, Debug)]

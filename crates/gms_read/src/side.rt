@@ -2,14 +2,11 @@
 ghost use Rattle.std.specs.Prelude.{◌≡◌, Ok, IfOk, MatchResult};
 ghost use Rattle.emp_ast.specs.Nodes.{join_node};
 ghost use Rattle.emp_ast.specs.Trees.{tree_from};
-ghost use Rattle.gms_read.specs.declared.fault.ModelFault.TheVariants.{NoMemory};
+ghost use Rattle.gms_grammar.specs.declared.fault.ModelFault.TheVariants.{NoMemory};
 ghost use Rattle.gms_read.specs.Rules.{exponent};
 ghost use Rattle.gms_read.specs.Performing.{Does};
 ghost use Rattle.gms_read.specs.Sides.{no_side, grown, number_by, name_by, raised_to, raise_by, signed_by, joined_by, entered, exponent_of};
 
-use crate::fault::ModelFault;
-use crate::item::Item;
-use crate::lexeme::{Lexeme, Sign};
 use crate::progress::{Second, Side};
 use crate::roots::Roots;
 use crate::shape::{accepts, arguments_shape, exponent};
@@ -17,6 +14,9 @@ use emp_ast::tree::{Node, Operator, Place, Tree, VarId};
 use emp_list::memory;
 use emp_list::seq::Seq;
 use emp_num::frac::Frac;
+use gms_grammar::fault::ModelFault;
+use gms_grammar::item::Item;
+use gms_grammar::lexeme::{Lexeme, Sign};
 use std::alloc::Global;
 
 /// The number of a node. The number 2^32 and those above want memory that no list has.

@@ -1,0 +1,10 @@
+pub mod Agree
+pub mod Complete
+pub mod Completing
+pub mod Formed
+pub mod Levels
+pub mod Meanings
+pub mod Places
+pub mod Sorts
+pub mod Stacks
+pub mod Writing

@@ -1,6 +1,0 @@
-use Rattle.std.proofs.Common.{take}
-use Rattle.gms_read.specs.Lexemes.{AreLexemes}
-use Rattle.gms_read.proofs.lexemes.lexemes.Given as goal
-
-abbrev pub invariant-loop-token : goal.invariant-loop-token
-invariant-loop-token l = AreLexemes l.text (take l.token-index l.tokens) l.found.items

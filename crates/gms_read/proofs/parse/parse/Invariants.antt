@@ -1,6 +1,0 @@
-use Rattle.std.proofs.Common.{reverse, take}
-use Rattle.gms_read.proofs.Places.{Reached}
-use Rattle.gms_read.proofs.parse.parse.Given as goal
-
-abbrev pub invariant-loop-t : goal.invariant-loop-t
-invariant-loop-t l = Reached (take l.t-index l.lexemes) (reverse l.stack.items) l.out.items
