@@ -24,6 +24,7 @@ impl Model for Trail {
 
 #[tactic(auto, using(crate::proofs::Trails::stacking))]
 impl Trail {
+    /// No turns.
     pub fn new() -> Self
         ensures { result ≡ [] }
     {
@@ -36,12 +37,14 @@ impl Trail {
         }
     }
 
+    /// The number of turns on the trail, at most 256.
     pub fn len(&self) -> usize
         ensures { result ≡ length self.now }
     {
         self.open[..self.depth].len()
     }
 
+    /// Adds the nearest turn; the caller knows that fewer than 256 are there.
     pub fn push(&mut self, turn: Turn)
         requires { length self.old < 256 }
         ensures { self.new ≡ turn ∷ self.old }
@@ -50,6 +53,7 @@ impl Trail {
         self.depth += 1;
     }
 
+    /// Takes the nearest turn; the caller knows that there is one.
     pub fn pop(&mut self) -> Turn
         requires { 0 < length self.old }
         ensures nearest { self.old ≡ result ∷ self.new }

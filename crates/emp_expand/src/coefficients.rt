@@ -34,6 +34,7 @@ pub fn zero() -> Frac
 }
 
 impl Coefficients {
+    /// No coefficients: the polynomial 0.
     pub fn new(alloc: Global) -> Self
         ensures { (q : Monomial) → factor result q ≡ None }
     {
@@ -42,6 +43,7 @@ impl Coefficients {
         }
     }
 
+    /// The coefficient of a product, or `None` where there is none.
     pub fn get(&self, at: Product) -> Option<Frac>
         ensures { result ≡ factor self.now at }
     {
@@ -58,6 +60,7 @@ impl Coefficients {
         }
     }
 
+    /// Writes the coefficient of a product in place of what it had; an error where there is no memory.
     pub fn put(&mut self, at: Product, value: Frac) -> Result<(), AllocError>
         ensures here { OnOk result (factor self.new at ≡ Some value) }
         ensures others { OnOk result ((q : Monomial) → q ≢ at → factor self.new q ≡ factor self.old q) }
@@ -66,6 +69,7 @@ impl Coefficients {
         Ok(())
     }
 
+    /// Takes the coefficient of a product out, where it has one.
     pub fn remove(&mut self, at: Product)
         ensures here { factor self.new at ≡ None }
         ensures others { (q : Monomial) → q ≢ at → factor self.new q ≡ factor self.old q }
@@ -118,6 +122,7 @@ impl Coefficients {
 
     ghost use Rattle.emp_expand.specs.Degrees.{DegreeIs};
 
+    /// The degree of the polynomial: that of the last product that has a coefficient, `Constant` where none has.
     pub fn degree(&self) -> Degree
         ensures { DegreeIs self.now result }
     {
