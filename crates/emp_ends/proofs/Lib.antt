@@ -1,0 +1,4 @@
+pub mod Sums
+pub mod Splits
+pub mod Working
+pub mod Counting
