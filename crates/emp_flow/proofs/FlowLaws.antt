@@ -1,91 +1,82 @@
 -- What a decision means of the file: its point is an equilibrium, and where none is found there is none.
-use Rattle.std.proofs.Common.{◌≡◌, ℕ, ◌<◌, pos, true, false, ◌||◌, List, [], ◌∷◌, length, Some, ap, ◌∙◌}
-use Rattle.std.specs.Prelude.{slice_get}
-use Rattle.std.specs.List.{AllByRecursion, list_any}
-use Rattle.std.proofs.lemmas.Option.{slice_get_within}
-use Rattle.emp_num.specs.Ratio.{ratio}
-use Rattle.emp_num.specs.Point.{Point}
-use Rattle.emp_ast.specs.declared.tree.VarId.{VarId}
-use Rattle.emp_ast.specs.declared.tree.EquId.{EquId}
+use Rattle.std.proofs.Common.{◌≡◌, ℕ, ◌<◌, ◌≤◌, ℤ, pos, ◌*ℤ◌, ◌<ℤ◌, true, List, [], ◌∷◌, length, take, get_or, None, refl, sym, ap, subst, ◌∙◌, arith}
+use Rattle.std.proofs.lemmas.List.{get_or-take, length-take-le}
+use Rattle.emp_algebra.specs.Vector.{cell}
+use Rattle.emp_algebra.proofs.Ring.{var, ◌⊗◌, by_ring}
+use Rattle.emp_algebra.proofs.Order.{cancel_right}
+use Rattle.emp_num.specs.Whole.{whole}
+use Rattle.emp_num.specs.Ratio.{SameRatio}
+use Rattle.emp_num.specs.Point.{Point, coordinate, StandsFor}
+use Rattle.emp_num.specs.declared.frac.Frac.{Frac}
+use Rattle.emp_num.proofs.Commons.{common_point, stands_for_common}
 use Rattle.emp_ast.specs.declared.model.Model.{Model}
-use Rattle.emp_ast.specs.declared.annot.Block.TheVariants.{Vi}
 use Rattle.emp_ast.specs.declared.annot.Annot.{Annot}
-use Rattle.emp_ast.specs.Parties.{block, is_constraint, has_dual, names_equation}
-use Rattle.emp_ast.specs.Rivals.{Fits}
-use Rattle.emp_ast.specs.Solved.{gap}
-use Rattle.emp_ast.specs.Equilibrium.{is_priced, IsEquilibrium}
-use Rattle.emp_rows.proofs.WalkLaws.{walk_vanishes, walk_refutes}
-use Rattle.emp_flow.specs.Flow.{is_empty, are_pairs, is_flow_block, slots}
-use Rattle.emp_flow.specs.Decides.{IsReady}
+use Rattle.emp_ast.specs.Equilibrium.{IsEquilibrium}
+use Rattle.emp_rows.specs.declared.system.RowSystem.{RowSystem}
+use Rattle.emp_rows.specs.RowPoints.{Solves}
+use Rattle.emp_cert.proofs.Shown.{none_shown}
+use Rattle.emp_search.specs.Search.{State, closed, search_of}
+use Rattle.emp_search.specs.Shown.{SearchShows, ShowsFor}
+use Rattle.emp_search.proofs.Rooted.{searches_show}
+use Rattle.emp_flow.specs.Flow.{is_flow, IsSystemOf}
+use Rattle.emp_flow.specs.Decides.{AllExpand, AllLinear, IsReady}
 use Rattle.emp_flow.specs.FlowLaws.{PointsAreEquilibria, MissingHaveNone}
-use Rattle.emp_flow.proofs.Gaps.{HasGap, IsStill, FineSlot, StillSlot, gap_there, rows_width, vanish_still, still_vanish}
-use Rattle.emp_flow.proofs.Slots.{Pairs, and_both, slice_there, all_at, slots_to_pairs, pairs_to_slots, empty_is, IsFlow, flow_is, vi_of, fine_slots}
-use Rattle.emp_flow.proofs.Blocks.{no_constraint, no_constraints, still_solved, solved_still}
+use Rattle.emp_flow.specs.Holds.{Balances}
+use Rattle.emp_flow.proofs.Outcomes.{found_shows, base_wide}
 
-gaps_there : (m : Model) (p : Point) (pairs : Pairs) → AllByRecursion (λ q. FineSlot m (Some q.0.at)) pairs → AllByRecursion (λ q. HasGap (gap m p q.0.at)) pairs
-gaps_there m p [] h = tt
-gaps_there m p (q ∷ pairs) h = (gap_there m p q.0.at h.0, gaps_there m p pairs h.1)
+-- ---- points
+-- two points with one fraction as their coordinate
+one_ratio : (a b d e n k : ℤ) → n *ℤ d ≡ a *ℤ k → n *ℤ e ≡ b *ℤ k → pos 0 <ℤ k → a *ℤ e ≡ b *ℤ d
+one_ratio a b d e n k h g above =
+    cancel_right (a *ℤ e) (b *ℤ d) k
+    (by_ring (a ∷ e ∷ k ∷ []) (var 0 ⊗ var 1 ⊗ var 2) (var 0 ⊗ var 2 ⊗ var 1) refl
+    ∙ (ap (λ z. z *ℤ e) (sym h)
+    ∙ (by_ring (n ∷ d ∷ e ∷ []) (var 0 ⊗ var 1 ⊗ var 2) (var 0 ⊗ var 2 ⊗ var 1) refl ∙ (ap (λ z. z *ℤ d) g ∙ by_ring (b ∷ k ∷ d ∷ []) (var 0 ⊗ var 1 ⊗ var 2) (var 0 ⊗ var 2 ⊗ var 1) refl))))
+    above
 
--- ---- the blocks
-record IsBlock (m : Model) (a : Annot) (k : ℕ) : Type 0 where
-  pub zeros : List VarId
-  pub pairs : Pairs
-  pub at : slice_get a.blocks k ≡ Some (Vi zeros pairs [])
-  pub sound : are_pairs m pairs ≡ true
+-- a point that stands for the first n fractions has the coordinates of one that stands for all
+same_first : (n : ℕ) (fs values : List Frac) (x p : Point) → n ≤ length fs → values ≡ take n fs → StandsFor fs x → StandsFor values p → (i : ℕ) → i < n → SameRatio (coordinate x i) (coordinate p i)
+same_first n fs values x p wide are all first i below =
+    let d = whole 0 in
+    let f = get_or fs i d in
+    let count : length values ≡ n = ap length are ∙ length-take-le n fs wide in
+    let same : get_or values i d ≡ f = ap (λ vs. get_or vs i d) are ∙ get_or-take n fs i d below in
+    let h : f.num *ℤ x.den ≡ cell x.nums i *ℤ f.den = all.same i d (omega arith) in
+    let g : f.num *ℤ p.den ≡ cell p.nums i *ℤ f.den = subst (λ f. f.num *ℤ p.den ≡ cell p.nums i *ℤ f.den) same (first.same i d (omega arith)) in
+    one_ratio (cell x.nums i) (cell p.nums i) x.den p.den f.num f.den h g f.positive
 
-module _ (m : Model) (a : Annot) (is_flow : IsFlow m a) where
-  block_of : (k : ℕ) → k < length a.blocks → IsBlock m a k
-  block_of k l =
-      let b = slice_there a.blocks k l in
-      let v = vi_of m b.0 (all_at (is_flow_block m) a.blocks k b.0 is_flow.blocks b.1) in
-      record { zeros = v.zeros; pairs = v.pairs; at = b.1 ∙ ap (λ c. Some c) v.is; sound = v.sound }
+first_count : (n : ℕ) (fs values : List Frac) (p : Point) → n ≤ length fs → values ≡ take n fs → StandsFor values p → length p.nums ≡ n
+first_count n fs values p wide are first = first.count ∙ (ap length are ∙ length-take-le n fs wide)
 
-  none_constrains : (k : ℕ) → k < length a.blocks → (e : ℕ) → is_constraint m a (block k) e ≡ false
-  none_constrains k l e = let b = block_of k l in no_constraint m a is_flow k b.zeros b.pairs b.at e
-
-  none_priced : (k : ℕ) → k < length a.blocks → is_priced m a k ≡ false
-  none_priced k l = let b = block_of k l in ap (λ es. list_any (λ e. has_dual a e.at || names_equation a.visols e.at) es) (no_constraints m a is_flow k b.zeros b.pairs b.at)
-
-  module _ (ready : IsReady m a) (p : Point) where
-    gaps : (k : ℕ) (b : IsBlock m a k) → AllByRecursion (λ q. HasGap (gap m p q.0.at)) b.pairs
-    gaps k b = gaps_there m p b.pairs (slots_to_pairs (FineSlot m) a (fine_slots m a is_flow ready) k b.zeros b.pairs [] b.at)
-
-    -- where the functions of all slots are 0, each block is solved
-    equilibrium_of : Fits m p → AllByRecursion (StillSlot m p) (slots a) → IsEquilibrium m a p
-    equilibrium_of fits still = record {
-      fits = fits;
-      solved = λ k l. let b = block_of k l in still_solved m a is_flow k b.zeros b.pairs b.at p fits (gaps k b) (slots_to_pairs (StillSlot m p) a still k b.zeros b.pairs [] b.at);
-      choice = λ k e. ratio (pos 0) (pos 1);
-      prices = record {
-        multipliers = λ k l priced. let none = none_priced k l in cc;
-        duals = λ k i d l at constrains. let none = none_constrains k l d.1.at in cc;
-        shared = λ j k e l n named constrains also. let none = none_constrains j l e in cc;
-      };
-    }
-
-    -- where each block is solved, the functions of all slots are 0
-    still_of : IsEquilibrium m a p → AllByRecursion (StillSlot m p) (slots a)
-    still_of h = pairs_to_slots (StillSlot m p) a tt of_block
-      where
-        of_block : (k : ℕ) (zeros : List VarId) (pairs : Pairs) (equs : List EquId) → slice_get a.blocks k ≡ Some (Vi zeros pairs equs) → AllByRecursion (λ q. IsStill (gap m p q.0.at)) pairs
-        of_block k zeros pairs equs at =
-            let both = and_both (is_empty equs) (are_pairs m pairs) (all_at (is_flow_block m) a.blocks k (Vi zeros pairs equs) is_flow.blocks at) in
-            let there : slice_get a.blocks k ≡ Some (Vi zeros pairs []) = at ∙ ap (λ es. Some (Vi zeros pairs es)) (empty_is equs both.0) in
-            let b : IsBlock m a k = record { zeros = zeros; pairs = pairs; at = there; sound = both.1 } in
-            solved_still m a is_flow k zeros pairs there both.1 p h.fits (gaps k b) (h.solved k (slice_get_within a.blocks k (Vi zeros pairs equs) at))
+-- ---- trees
+leaves_none : (s : RowSystem) (limit : ℕ) (st : State) → search_of s limit ≡ closed st → st.best ≡ None → (x : Point) → Solves s x → ⊥
+leaves_none s limit st e none x h =
+    let shown = subst (λ r. SearchShows s r) e (searches_show s limit) in
+    none_shown s shown.tree (subst (λ b. ShowsFor s b [] shown.tree) none shown.shows) x h
 
 -- ---- the laws
-pub points_are_equilibria : PointsAreEquilibria
-points_are_equilibria m a pivots values p e h stands =
-    let is_flow = flow_is m a e in
-    let fine = fine_slots m a is_flow h.ready in
-    let fits : Fits m p = stands.count ∙ h.point.count in
-    let vanish = walk_vanishes (length m.variables) h.rows pivots h.dictionary values p (rows_width m (slots a) h.rows fine h.are_rows) h.walked h.point stands in
-    equilibrium_of m a is_flow h.ready p fits (vanish_still m p fits (slots a) h.rows fine h.are_rows vanish)
+module _
+    (solves_balance : (m : Model) (a : Annot) (s : RowSystem) (x p : Point) → is_flow m a ≡ true → IsReady m a → IsSystemOf m a s → Solves s x → length p.nums ≡ length m.variables → ((i : ℕ) → i < length m.variables → SameRatio (coordinate x i) (coordinate p i)) → Balances m a p)
+    (balance_solves : (m : Model) (a : Annot) (s : RowSystem) (p : Point) → is_flow m a ≡ true → IsReady m a → IsSystemOf m a s → Balances m a p → (x : Point) × Solves s x)
+    (balance_equilibrium : (m : Model) (a : Annot) (p : Point) → is_flow m a ≡ true → AllExpand m → AllLinear m a → Balances m a p → IsEquilibrium m a p)
+    (equilibrium_balance : (m : Model) (a : Annot) (p : Point) → is_flow m a ≡ true → AllExpand m → AllLinear m a → IsEquilibrium m a p → Balances m a p) where
+  pub points_are_equilibria : PointsAreEquilibria
+  points_are_equilibria m a limit work values p flow h stands =
+      let s = h.search.system in
+      let ready = h.search.ready in
+      let solved = found_shows s limit h.dictionary h.state h.search.searched in
+      let base : length m.variables ≤ s.base = base_wide m a s h.search.is in
+      let count : length h.whole ≡ s.base = h.point_is.count ∙ solved.dictionary.columns in
+      let wide : length m.variables ≤ length h.whole = omega arith in
+      let x = common_point h.whole in
+      let solves : Solves s x = solved.solves h.whole x h.point_is (stands_for_common h.whole) in
+      let fits = first_count (length m.variables) h.whole values p wide h.values_are stands in
+      let same = same_first (length m.variables) h.whole values x p wide h.values_are (stands_for_common h.whole) stands in
+      balance_equilibrium m a p flow ready.expanded ready.linear (solves_balance m a s x p flow ready h.search.is solves fits same)
 
-pub missing_have_none : MissingHaveNone
-missing_have_none m a pivots factors p e h equilibrium =
-    let is_flow = flow_is m a e in
-    let fine = fine_slots m a is_flow h.ready in
-    let vanish = still_vanish m p equilibrium.fits (slots a) h.rows fine h.are_rows (still_of m a is_flow h.ready p equilibrium) in
-    walk_refutes (length m.variables) h.rows pivots factors p.den p.nums (rows_width m (slots a) h.rows fine h.are_rows) h.walked p.positive vanish
+  pub missing_have_none : MissingHaveNone
+  missing_have_none m a limit work nodes tree p flow h equilibrium =
+      let s = h.search.system in
+      let ready = h.search.ready in
+      let x = balance_solves m a s p flow ready h.search.is (equilibrium_balance m a p flow ready.expanded ready.linear equilibrium) in
+      leaves_none s limit h.state h.search.searched h.none x.0 x.1

@@ -1,5 +1,5 @@
--- How a file of variational inequalities over free variables is decided: each outcome with what is so exactly there.
-use Rattle.std.specs.Prelude.{◌≡◌, ◌≢◌, ◌⊎◌, ℕ, ◌+◌, ◌<◌, ◌≤◌, ℤ, pos, Bool, true, List, ◌∷◌, ◌++◌, length, slice_get, Option, Some, None, Result, Ok, Err}
+-- How a file of variational inequalities without constraints is decided: each outcome with what is so exactly there.
+use Rattle.std.specs.Prelude.{◌≡◌, ◌≢◌, ◌⊎◌, ℕ, ◌+◌, ◌-◌, ◌<◌, ◌≤◌, pos, Bool, true, List, ◌∷◌, ◌++◌, take, length, slice_get, Some, None, Result, Ok, Err}
 use Rattle.std.specs.List.{list_any}
 use Rattle.emp_num.specs.declared.frac.Frac.{Frac}
 use Rattle.emp_ast.specs.declared.tree.VarId.{VarId}
@@ -15,13 +15,18 @@ use Rattle.emp_poly.specs.declared.quad.Quad.{Quad}
 use Rattle.emp_poly.specs.declared.tree.PolyFault.{PolyFault}
 use Rattle.emp_poly.specs.Trees.{IsExpansion, FromTreeGives}
 use Rattle.emp_rows.specs.declared.affine.Affine.{Affine}
+use Rattle.emp_rows.specs.declared.system.Kind.{Kind}
+use Rattle.emp_rows.specs.declared.system.RowSystem.{RowSystem}
 use Rattle.emp_rows.specs.Primitive.{made}
-use Rattle.emp_rows.specs.Walk.{Dictionary, solved, refuted, too_wide, walk_of, ArePoint}
+use Rattle.emp_cert.specs.declared.tree.Node.{Node}
+use Rattle.emp_dict.specs.Dictionary.{Dictionary}
+use Rattle.emp_decide.specs.Reads.{IsPointOf}
+use Rattle.emp_search.specs.Search.{point, State, Searched, closed, found, wide_at, out_of_units, search_of}
 use Rattle.emp_flow.specs.declared.decide.Decision.{Decision}
 use Rattle.emp_flow.specs.declared.decide.Decision.TheVariants.{Point, Missing}
 use Rattle.emp_flow.specs.declared.decide.FlowFault.{FlowFault}
-use Rattle.emp_flow.specs.declared.decide.FlowFault.TheVariants.{Poly, Quadratic, TooLarge, WideRow, WidePivot, NoMemory}
-use Rattle.emp_flow.specs.Flow.{difference_of, slots, HasFractions, AreRowsOf, AreRows}
+use Rattle.emp_flow.specs.declared.decide.FlowFault.TheVariants.{Poly, Quadratic, TooLarge, WideRow, WidePivot, Spent, NoMemory}
+use Rattle.emp_flow.specs.Flow.{difference_of, base_of, Quantity, quantities, quantity_form, AreFractionsOf, AreRowsOf, IsSystemOf}
 
 -- ---- expansions, by equation in order of declaration, left before right
 abbrev pub Expands : Tree → Type 0
@@ -69,7 +74,7 @@ pub record IsFirstQuadratic (m : Model) (a : Annot) (e : EquId) (u v : VarId) : 
 
 -- ---- sizes and rows
 abbrev pub Fits : Model → Annot → Type 0
-Fits m a = (length m.variables ≤ 256) × (length (slots a) ≤ 512)
+Fits m a = (base_of m a ≤ 256) × (length (quantities m a) ≤ 512)
 
 -- expanded, with linear functions and sizes within the limits
 pub record IsReady (m : Model) (a : Annot) : Type 0 where
@@ -82,48 +87,53 @@ pub record IsTooLarge (m : Model) (a : Annot) : Type 0 where
   pub linear : AllLinear m a
   pub large : Fits m a → ⊥
 
--- the slots before number k, counted from 1, have rows, and a number formed in the row of this one is wide
+-- the quantities before number k, counted from 1, have rows, and a number formed in the row of this one is wide
 pub record IsFirstWide (m : Model) (a : Annot) (k : ℕ) : Type 0 where
   pub ready : IsReady m a
-  pub earlier : List (Option ℕ)
-  pub slot : Option ℕ
-  pub later : List (Option ℕ)
-  pub slots_are : slots a ≡ earlier ++ slot ∷ later
+  pub earlier : List (Kind × Quantity)
+  pub quantity : Kind × Quantity
+  pub later : List (Kind × Quantity)
+  pub quantities_are : quantities m a ≡ earlier ++ quantity ∷ later
   pub number : k ≡ length earlier + 1
   pub rows : List Affine
-  pub before : AreRowsOf m earlier rows
+  pub before : AreRowsOf m (base_of m a) earlier rows
   pub cells : List Frac
   pub constant : Frac
-  pub fractions : HasFractions m slot cells constant
+  pub fractions : AreFractionsOf (base_of m a) (quantity_form m quantity.1) cells constant
   pub wide : made cells constant ≡ None
 
--- ---- the walk
-pub record IsPoint (m : Model) (a : Annot) (pivots : ℕ) (values : List Frac) : Type 0 where
+-- ---- the search of the row system, with a limit of units of work
+pub record IsSearched (m : Model) (a : Annot) (limit : ℕ) (r : Searched) : Type 0 where
   pub ready : IsReady m a
-  pub rows : List Affine
-  pub are_rows : AreRows m a rows
+  pub system : RowSystem
+  pub is : IsSystemOf m a system
+  pub searched : search_of system limit ≡ r
+
+-- the values are those of the model's variables at the point that was found
+pub record IsPoint (m : Model) (a : Annot) (limit work : ℕ) (values : List Frac) : Type 0 where
   pub dictionary : Dictionary
-  pub walked : walk_of (length m.variables) rows ≡ solved pivots dictionary
-  pub point : ArePoint (length m.variables) dictionary values
+  pub state : State
+  pub search : IsSearched m a limit (found (point dictionary) state)
+  pub whole : List Frac
+  pub point_is : IsPointOf dictionary whole
+  pub values_are : values ≡ take (length m.variables) whole
+  pub work_is : work ≡ limit - state.left
 
-pub record IsMissing (m : Model) (a : Annot) (pivots : ℕ) (factors : List ℤ) : Type 0 where
-  pub ready : IsReady m a
-  pub rows : List Affine
-  pub are_rows : AreRows m a rows
-  pub walked : walk_of (length m.variables) rows ≡ refuted pivots factors
+pub record IsMissing (m : Model) (a : Annot) (limit work nodes : ℕ) (tree : List Node) : Type 0 where
+  pub state : State
+  pub search : IsSearched m a limit (closed state)
+  pub none : state.best ≡ None
+  pub tree_is : tree ≡ state.written
+  pub work_is : work ≡ limit - state.left
+  pub nodes_are : nodes ≡ state.nodes
 
-pub record IsWidePivot (m : Model) (a : Annot) (pivot : ℕ) : Type 0 where
-  pub ready : IsReady m a
-  pub rows : List Affine
-  pub are_rows : AreRows m a rows
-  pub walked : walk_of (length m.variables) rows ≡ too_wide pivot
-
-abbrev pub DecideGives : Model → Annot → Result Decision FlowFault → Type 0
-DecideGives m a (Ok (Point pivots values)) = IsPoint m a pivots values
-DecideGives m a (Ok (Missing pivots factors)) = IsMissing m a pivots factors
-DecideGives m a (Err (Poly f)) = IsFirstFault m f
-DecideGives m a (Err (Quadratic e u v)) = IsFirstQuadratic m a e u v
-DecideGives m a (Err TooLarge) = IsTooLarge m a
-DecideGives m a (Err (WideRow k)) = IsFirstWide m a k
-DecideGives m a (Err (WidePivot n)) = IsWidePivot m a n
-DecideGives m a (Err NoMemory) = Unit {0}
+abbrev pub DecideGives : Model → Annot → ℕ → Result Decision FlowFault → Type 0
+DecideGives m a limit (Ok (Point work values)) = IsPoint m a limit work values
+DecideGives m a limit (Ok (Missing work nodes tree)) = IsMissing m a limit work nodes tree.nodes
+DecideGives m a limit (Err (Poly f)) = IsFirstFault m f
+DecideGives m a limit (Err (Quadratic e u v)) = IsFirstQuadratic m a e u v
+DecideGives m a limit (Err TooLarge) = IsTooLarge m a
+DecideGives m a limit (Err (WideRow k)) = IsFirstWide m a k
+DecideGives m a limit (Err (WidePivot node pivot)) = IsSearched m a limit (wide_at node pivot)
+DecideGives m a limit (Err Spent) = IsSearched m a limit out_of_units
+DecideGives m a limit (Err NoMemory) = Unit {0}

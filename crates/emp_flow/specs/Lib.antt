@@ -1,6 +1,8 @@
 pub mod Flow
 pub mod Decides
 pub mod FlowLaws
+pub mod Holds
 pub mod Stages
-pub mod Slots
+pub mod Owned
 pub mod Walked
+pub mod Making

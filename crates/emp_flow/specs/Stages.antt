@@ -1,6 +1,5 @@
 -- What the parts of the decision give. This serves proofs; no meaning cites it.
 use Rattle.std.specs.Prelude.{◌≡◌, ℕ, List, length, slice_get, Option, Some, None, Result, Ok, Err}
-use Rattle.std.specs.List.{All}
 use Rattle.emp_ast.specs.declared.tree.VarId.{VarId}
 use Rattle.emp_ast.specs.declared.tree.EquId.{EquId}
 use Rattle.emp_ast.specs.declared.model.Equation.{Equation}
@@ -11,11 +10,10 @@ use Rattle.emp_poly.specs.Quads.{HasForm}
 use Rattle.emp_poly.specs.declared.quad.Quad.{Quad}
 use Rattle.emp_poly.specs.declared.tree.PolyFault.{PolyFault}
 use Rattle.emp_poly.specs.declared.tree.PolyFault.TheVariants as PolyWords
-use Rattle.emp_rows.specs.declared.affine.Affine.{Affine}
-use Rattle.emp_rows.specs.Affine.{IsRow}
+use Rattle.emp_rows.specs.declared.system.RowSystem.{RowSystem}
 use Rattle.emp_flow.specs.declared.decide.FlowFault.{FlowFault}
-use Rattle.emp_flow.specs.declared.decide.FlowFault.TheVariants.{Poly, Quadratic, TooLarge, WideRow, WidePivot, NoMemory}
-use Rattle.emp_flow.specs.Flow.{difference_of, AreRows}
+use Rattle.emp_flow.specs.declared.decide.FlowFault.TheVariants.{Poly, Quadratic, TooLarge, WideRow, WidePivot, Spent, NoMemory}
+use Rattle.emp_flow.specs.Flow.{difference_of, IsSystemOf}
 use Rattle.emp_flow.specs.Decides.{AllExpand, IsFirstFault, AllLinear, IsFirstQuadratic, IsReady, IsTooLarge, IsFirstWide}
 
 -- one polynomial for each equation, with the coefficients of its difference
@@ -35,11 +33,12 @@ abbrev pub QuadraticGives : Model → Annot → Option (EquId × VarId × VarId)
 QuadraticGives m a None = AllLinear m a
 QuadraticGives m a (Some t) = IsFirstQuadratic m a t.0 t.1 t.2
 
-abbrev pub RowsGive : Model → Annot → Result (List Affine) FlowFault → Type 0
-RowsGive m a (Ok rows) = IsReady m a × AreRows m a rows × All (IsRow (length m.variables)) rows
-RowsGive m a (Err (Poly f)) = ⊥
-RowsGive m a (Err (Quadratic e u v)) = ⊥
-RowsGive m a (Err TooLarge) = IsTooLarge m a
-RowsGive m a (Err (WideRow k)) = IsFirstWide m a k
-RowsGive m a (Err (WidePivot n)) = ⊥
-RowsGive m a (Err NoMemory) = Unit {0}
+abbrev pub SystemGives : Model → Annot → Result RowSystem FlowFault → Type 0
+SystemGives m a (Ok s) = IsReady m a × IsSystemOf m a s
+SystemGives m a (Err (Poly f)) = ⊥
+SystemGives m a (Err (Quadratic e u v)) = ⊥
+SystemGives m a (Err TooLarge) = IsTooLarge m a
+SystemGives m a (Err (WideRow k)) = IsFirstWide m a k
+SystemGives m a (Err (WidePivot node pivot)) = ⊥
+SystemGives m a (Err Spent) = ⊥
+SystemGives m a (Err NoMemory) = Unit {0}

@@ -1,32 +1,35 @@
-//! The decision of a file of variational inequalities over free variables.
-ghost use Rattle.std.specs.Prelude.{◌≡◌, ◌<◌, true, length};
-ghost use Rattle.std.specs.List.{All};
-ghost use Rattle.emp_rows.specs.Affine.{IsRow};
+//! The decision of a file of variational inequalities without constraints.
+ghost use Rattle.std.specs.Prelude.{◌≡◌, ◌<◌, ◌≤◌, true, length, take, None, IfOk};
 ghost use Rattle.emp_flow.specs.Flow.{is_flow};
 ghost use Rattle.emp_flow.specs.Decides.{AllExpand, AllLinear, DecideGives};
 ghost use Rattle.emp_flow.specs.Stages.{AreDifferences};
-ghost use Rattle.emp_flow.specs.Walked.{flow_fault, WalkedGives};
+ghost use Rattle.emp_flow.specs.Walked.{of_poly, of_walk, WalkedGives};
 
 use crate::expand::{differences, first_quadratic};
-use crate::rows::rows;
+use crate::rows::system;
 use emp_ast::annot::Annot;
 use emp_ast::model::Model;
 use emp_ast::tree::{EquId, VarId};
+use emp_cert::cert::Verdict;
+use emp_cert::tree::Tree;
+use emp_list::memory::NoMemory;
 use emp_list::seq::Seq;
 use emp_num::frac::Frac;
 use emp_poly::quad::Quad;
 use emp_poly::tree::PolyFault;
-use emp_rows::affine::Affine;
-use emp_rows::walk::{Verdict, walk};
+use emp_rows::point::RowPoint;
+use emp_rows::system::RowSystem;
+use emp_walk::fault::WalkFault;
+use emp_walk::search::search;
 use std::alloc::Global;
 
-/// How the walk over the quantities ends, with the number of pivots that it made.
+/// How the search of the row system ends, with the units of work that it took.
 #[derive(Drop)]
 pub enum Decision {
-    /// The value of each variable at a point where all quantities are 0.
-    Point { pivots: u64, values: Seq<Frac> },
-    /// No such point: one factor for each quantity, whose combination is a negative constant.
-    Missing { pivots: u64, factors: Seq<i128> },
+    /// The value of each variable at a point that it found.
+    Point { work: u64, values: Seq<Frac> },
+    /// No such point: the tree that leaves none, with its nodes opened.
+    Missing { work: u64, nodes: u64, tree: Tree },
 }
 
 /// Why there is no decision.
@@ -37,19 +40,21 @@ pub enum FlowFault {
     /// The first equation that is the function of a pair and has a quadratic coefficient, and the first pair of variables that
     /// has one.
     Quadratic(EquId, VarId, VarId),
-    /// More than 256 variables or more than 512 own variables.
+    /// More than 256 base variables or more than 512 quantities.
     TooLarge,
-    /// A number formed in the quantity of this slot, counted from 1, has an absolute value of 2^126 or more.
+    /// A number formed in this quantity, counted from 1, has an absolute value of 2^126 or more.
     WideRow(u32),
-    /// A number formed by this pivot, counted from 1, has an absolute value of 2^126 or more.
-    WidePivot(u64),
+    /// A number formed at this node by this pivot of the search, both counted from 1, has an absolute value of 2^126 or more.
+    WidePivot(u64, u64),
+    /// The search asked for more units of work than it may take.
+    Spent,
     /// No memory is left.
     NoMemory,
 }
 
 /// A polynomial's fault as one of the decision.
-fn flow_fault(fault: PolyFault) -> FlowFault
-    ensures { result ≡ flow_fault fault }
+fn of_poly(fault: PolyFault) -> FlowFault
+    ensures { result ≡ of_poly fault }
 {
     match fault {
         PolyFault::NoMemory => FlowFault::NoMemory,
@@ -57,54 +62,78 @@ fn flow_fault(fault: PolyFault) -> FlowFault
     }
 }
 
-/// Walks over quantities of so many variables.
-#[tactic(auto, using(crate::proofs::Outcomes::walking))]
-fn walked(alloc: Global, base: usize, rows: &[Affine]) -> Result<Decision, FlowFault>
-    requires base { base < 4294967296 }
-    requires count { length rows.now < 4294967296 }
-    requires rows { All (IsRow base) rows.now }
-    ensures { WalkedGives base rows.now result }
+/// A search's fault as one of the decision.
+fn of_walk(fault: WalkFault) -> FlowFault
+    ensures { result ≡ of_walk fault }
 {
-    let Ok(verdict) = walk(alloc, base, rows) else {
-        return Err(FlowFault::NoMemory);
-    };
-    match verdict {
-        Verdict::Point(pivots, values) => Ok(Decision::Point { pivots, values }),
-        Verdict::Missing(pivots, factors) => Ok(Decision::Missing { pivots, factors }),
-        Verdict::Wide(pivot) => Err(FlowFault::WidePivot(pivot)),
+    match fault {
+        WalkFault::Wide(node, pivot) => FlowFault::WidePivot(node, pivot),
+        WalkFault::Spent(_) => FlowFault::Spent,
+        WalkFault::NoMemory => FlowFault::NoMemory,
     }
 }
 
-/// Decides over linear differences: makes the quantities and walks over them.
+/// So many of the first values of a point.
+fn first_values(alloc: Global, count: usize, point: RowPoint) -> Result<Seq<Frac>, NoMemory>
+    requires { count ≤ length point }
+    ensures { IfOk result (λ values. values ≡ take count point) }
+{
+    Seq::of_slice(alloc, &point.as_slice()[..count])
+}
+
+/// Searches a row system without an objective, of which the first so many base variables are the model's.
+fn walked(alloc: Global, count: usize, system: &RowSystem, work: u64) -> Result<Decision, FlowFault>
+    requires base { count ≤ system.now.base }
+    requires objective { system.now.objective ≡ None }
+    ensures { WalkedGives count system.now work result }
+{
+    let answer = match search(alloc, system, work) {
+        Ok(answer) => answer,
+        Err(fault) => return Err(of_walk(fault)),
+    };
+    let (work, nodes) = (answer.work, answer.nodes);
+    match answer.verdict {
+        Verdict::Point(point) => match first_values(alloc, count, point) {
+            Ok(values) => Ok(Decision::Point { work, values }),
+            Err(NoMemory) => Err(FlowFault::NoMemory),
+        },
+        Verdict::Missing(tree) => Ok(Decision::Missing { work, nodes, tree }),
+        Verdict::Best(..) => unreachable!(),
+        Verdict::Unbounded(..) => unreachable!(),
+    }
+}
+
+/// Decides over linear differences: makes the row system and searches it.
 fn decide_linear(
     alloc: Global,
     model: &Model,
     annot: &Annot,
     differences: &[Quad],
+    work: u64,
 ) -> Result<Decision, FlowFault>
     requires flow { is_flow model.now annot.now ≡ true }
     requires expand { AllExpand model.now }
     requires linear { AllLinear model.now annot.now }
     requires differences { AreDifferences model.now differences.now }
-    ensures { DecideGives model.now annot.now result }
+    ensures { DecideGives model.now annot.now work result }
 {
-    let rows = rows(alloc, model, annot, differences)?;
-    walked(alloc, model.variables.len(), rows.as_slice())
+    let system = system(alloc, model, annot, differences)?;
+    walked(alloc, model.variables.len(), &system, work)
 }
 
-/// Expands the equations, makes one quantity for each own variable, and walks over them. Each outcome has its cause in
-/// `specs/Decides.antt`.
-pub fn decide(alloc: Global, model: &Model, annot: &Annot) -> Result<Decision, FlowFault>
+/// Expands the equations, makes the row system of the file, and searches it with so many units of work. Each outcome has its
+/// cause in `specs/Decides.antt`.
+pub fn decide(alloc: Global, model: &Model, annot: &Annot, work: u64) -> Result<Decision, FlowFault>
     requires flow { is_flow model.now annot.now ≡ true }
     requires variables { length model.now.variables < 4294967296 }
     requires equations { length model.now.equations < 4294967296 }
-    ensures { DecideGives model.now annot.now result }
+    ensures { DecideGives model.now annot.now work result }
 {
     match differences(alloc, model) {
         Ok(list) => match first_quadratic(model, annot, list.as_slice()) {
             Some((equation, first, second)) => Err(FlowFault::Quadratic(equation, first, second)),
-            None => decide_linear(alloc, model, annot, list.as_slice()),
+            None => decide_linear(alloc, model, annot, list.as_slice(), work),
         },
-        Err(fault) => Err(flow_fault(fault)),
+        Err(fault) => Err(of_poly(fault)),
     }
 }

@@ -1,6 +1,6 @@
-//! Variational inequalities over free variables.
+//! Variational inequalities without constraints.
 //!
-//! `decide` expands the equations, makes one quantity for each own variable and walks over them; `specs/Flow.antt` says which
+//! `decide` expands the equations, makes the row system of the own variables and searches it; `specs/Flow.antt` says which
 //! files these are and which quantities, `specs/Decides.antt` each outcome, and `laws` what an outcome means of the file.
 #![tactic(auto)]
 
