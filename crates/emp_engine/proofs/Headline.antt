@@ -9,6 +9,7 @@ use Rattle.emp_ast.specs.declared.model.Model.{Model}
 use Rattle.emp_ast.specs.declared.annot.Annot.{Annot}
 use Rattle.emp_ast.specs.Names.{variable_names}
 use Rattle.emp_desk.specs.Desk.{Place, Contents, Told, KeepsAll, KeepsFiles, Says}
+use Rattle.emp_command.specs.declared.words.Verb.{Verb}
 use Rattle.emp_command.specs.declared.words.Verb.TheVariants.{Solve, Print}
 use Rattle.emp_command.specs.Words.{Asked, Asks, solve, check, print, make, migrate, pieces}
 use Rattle.emp_command.specs.Course.{Outcome, refusal, IsDue, bad_words, bad_work, bad_firms, unread, too_long, answered, no_memory, IsCut, Delivers, whole, unsaid, unstored, StoresAll, StoresPart, Runs, delivered, cut_short}
@@ -25,13 +26,15 @@ use Rattle.emp_owner.specs.declared.owned.OwnFault.TheVariants as OwnWords
 use Rattle.emp_owner.specs.Settled.{IsKept, IsFirstBroken}
 use Rattle.emp_poly.specs.declared.tree.PolyFault.{PolyFault}
 use Rattle.emp_poly.specs.declared.tree.PolyFault.TheVariants as PolyWords
+use Rattle.emp_cert.specs.declared.tree.Node.{Node}
+use Rattle.emp_cert.specs.declared.tree.Tree.{Tree}
 use Rattle.emp_flow.specs.declared.decide.Decision.{Decision}
 use Rattle.emp_flow.specs.declared.decide.Decision.TheVariants as DecisionWords
 use Rattle.emp_flow.specs.declared.decide.FlowFault.{FlowFault}
 use Rattle.emp_flow.specs.declared.decide.FlowFault.TheVariants as FlowWords
 use Rattle.emp_flow.specs.Flow.{is_flow}
 use Rattle.emp_flow.specs.Decides.{DecideGives, IsPoint, IsMissing}
-use Rattle.emp_flow.proofs.FlowLaws.{points_are_equilibria, missing_have_none}
+use Rattle.emp_flow.proofs.Decided.{points_are_equilibria, missing_have_none}
 use Rattle.emp_lines.specs.TextLines.{model_line, info_line, own_line}
 use Rattle.emp_lines.specs.ClassLines.{poly_status, spent_line, pivot_line}
 use Rattle.emp_report.specs.Report.{equilibrium_report, missing_report}
@@ -41,22 +44,6 @@ use Rattle.emp_engine.specs.Ends.{Ends}
 use Rattle.emp_command.proofs.Telling.{told_map}
 
 -- ---- the outcome of a decision
-limit_is : (b : Bool) (work s : ℕ) (o : Outcome) → (cond b o (refusal 20 (spent_line work))).status ≡ s → s ≢ 20 → cond b o (refusal 20 (spent_line work)) ≡ o
-limit_is true work s o e n = refl
-limit_is false work s o e n = absurd (n (sym e))
-
-limit_not : (b : Bool) (work s : ℕ) (o : Outcome) → (cond b o (refusal 20 (spent_line work))).status ≡ s → s ≢ 20 → o.status ≢ s → ⊥
-limit_not true work s o e n m = m e
-limit_not false work s o e n m = n (sym e)
-
-limit_stores : (b : Bool) (work : ℕ) (o : Outcome) → o.stores ≡ [] → (cond b o (refusal 20 (spent_line work))).stores ≡ []
-limit_stores true work o e = e
-limit_stores false work o e = refl
-
-limit_status : (b : Bool) (work : ℕ) (o : Outcome) → IsStatus o.status → IsStatus (cond b o (refusal 20 (spent_line work))).status
-limit_status true work o e = e
-limit_status false work o e = refl
-
 poly_late : (f : PolyFault) → 17 ≤ poly_status f
 poly_late (PolyWords.Degree p) = omega arith
 poly_late (PolyWords.DivideByVariable p) = omega arith
@@ -80,54 +67,58 @@ module _ (m : Model) (work : ℕ) where
   fault_late (FlowWords.Quadratic q u v) s e l = omega arith
   fault_late FlowWords.TooLarge s e l = omega arith
   fault_late (FlowWords.WideRow k) s e l = omega arith
-  fault_late (FlowWords.WidePivot n) s e l = limit_not (nat_le (n + 1) work) work s (refusal 19 (pivot_line 1 n)) e (λ h. omega arith) (λ h. omega arith)
+  fault_late (FlowWords.WidePivot n p) s e l = omega arith
+  fault_late FlowWords.Spent s e l = omega arith
   fault_late FlowWords.NoMemory s e l = omega arith
 
   -- the statuses between a report and a class are no decision's
-  pub not_of_texts : (d : Result Decision FlowFault) (s : ℕ) → status_of d ≡ s → 1 < s → s < 17 → ⊥
-  not_of_texts (Ok (DecisionWords.Point n fs)) s e l k = limit_not (nat_le (n + 1) work) work s (saying 0 (equilibrium_report (n + 1) (variable_names m) fs)) e (λ h. omega arith) (λ h. omega arith)
-  not_of_texts (Ok (DecisionWords.Missing n fs)) s e l k = limit_not (nat_le (n + 1) work) work s (saying 1 (missing_report (n + 1) fs)) e (λ h. omega arith) (λ h. omega arith)
+  not_of_texts : (d : Result Decision FlowFault) (s : ℕ) → status_of d ≡ s → 1 < s → s < 17 → ⊥
+  not_of_texts (Ok (DecisionWords.Point w fs)) s e l k = omega arith
+  not_of_texts (Ok (DecisionWords.Missing w n t)) s e l k = omega arith
   not_of_texts (Err f) s e l k = fault_late f s e k
 
-  pub record IsFound (d : Result Decision FlowFault) : Type 0 where
-    pub pivots : ℕ
-    pub values : List Frac
-    pub is : d ≡ Ok (DecisionWords.Point pivots values)
-    pub outcome : flow_outcome m work d ≡ saying 0 (equilibrium_report (pivots + 1) (variable_names m) values)
+  record IsFound (d : Result Decision FlowFault) : Type 0 where
+    taken : ℕ
+    values : List Frac
+    is : d ≡ Ok (DecisionWords.Point taken values)
+    outcome : flow_outcome m work d ≡ saying 0 (equilibrium_report taken (variable_names m) values)
 
-  pub found_of : (d : Result Decision FlowFault) → status_of d ≡ 0 → IsFound d
-  found_of (Ok (DecisionWords.Point n fs)) e = record { pivots = n; values = fs; is = refl; outcome = limit_is (nat_le (n + 1) work) work 0 (saying 0 (equilibrium_report (n + 1) (variable_names m) fs)) e (λ h. omega arith) }
-  found_of (Ok (DecisionWords.Missing n fs)) e = absurd (limit_not (nat_le (n + 1) work) work 0 (saying 1 (missing_report (n + 1) fs)) e (λ h. omega arith) (λ h. omega arith))
+  found_of : (d : Result Decision FlowFault) → status_of d ≡ 0 → IsFound d
+  found_of (Ok (DecisionWords.Point w fs)) e = record { taken = w; values = fs; is = refl; outcome = refl }
+  found_of (Ok (DecisionWords.Missing w n t)) e = absurd (omega arith)
   found_of (Err f) e = absurd (fault_late f 0 e (omega arith))
 
-  pub record IsNone (d : Result Decision FlowFault) : Type 0 where
-    pub pivots : ℕ
-    pub factors : List ℤ
-    pub is : d ≡ Ok (DecisionWords.Missing pivots factors)
+  record IsNone (d : Result Decision FlowFault) : Type 0 where
+    taken : ℕ
+    nodes : ℕ
+    tree : Tree
+    is : d ≡ Ok (DecisionWords.Missing taken nodes tree)
 
-  pub none_of : (d : Result Decision FlowFault) → status_of d ≡ 1 → IsNone d
-  none_of (Ok (DecisionWords.Point n fs)) e = absurd (limit_not (nat_le (n + 1) work) work 1 (saying 0 (equilibrium_report (n + 1) (variable_names m) fs)) e (λ h. omega arith) (λ h. omega arith))
-  none_of (Ok (DecisionWords.Missing n fs)) e = record { pivots = n; factors = fs; is = refl }
+  none_of : (d : Result Decision FlowFault) → status_of d ≡ 1 → IsNone d
+  none_of (Ok (DecisionWords.Point w fs)) e = absurd (omega arith)
+  none_of (Ok (DecisionWords.Missing w n t)) e = record { taken = w; nodes = n; tree = t; is = refl }
   none_of (Err f) e = absurd (fault_late f 1 e (omega arith))
 
-  pub flow_stores : (d : Result Decision FlowFault) → (flow_outcome m work d).stores ≡ []
-  flow_stores (Ok (DecisionWords.Point n fs)) = limit_stores (nat_le (n + 1) work) work (saying 0 (equilibrium_report (n + 1) (variable_names m) fs)) refl
-  flow_stores (Ok (DecisionWords.Missing n fs)) = limit_stores (nat_le (n + 1) work) work (saying 1 (missing_report (n + 1) fs)) refl
+  flow_stores : (d : Result Decision FlowFault) → (flow_outcome m work d).stores ≡ []
+  flow_stores (Ok (DecisionWords.Point w fs)) = refl
+  flow_stores (Ok (DecisionWords.Missing w n t)) = refl
   flow_stores (Err (FlowWords.Poly f)) = refl
   flow_stores (Err (FlowWords.Quadratic q u v)) = refl
   flow_stores (Err FlowWords.TooLarge) = refl
   flow_stores (Err (FlowWords.WideRow k)) = refl
-  flow_stores (Err (FlowWords.WidePivot n)) = limit_stores (nat_le (n + 1) work) work (refusal 19 (pivot_line 1 n)) refl
+  flow_stores (Err (FlowWords.WidePivot n p)) = refl
+  flow_stores (Err FlowWords.Spent) = refl
   flow_stores (Err FlowWords.NoMemory) = refl
 
-  pub flow_answers : (d : Result Decision FlowFault) → IsStatus (status_of d)
-  flow_answers (Ok (DecisionWords.Point n fs)) = limit_status (nat_le (n + 1) work) work (saying 0 (equilibrium_report (n + 1) (variable_names m) fs)) refl
-  flow_answers (Ok (DecisionWords.Missing n fs)) = limit_status (nat_le (n + 1) work) work (saying 1 (missing_report (n + 1) fs)) refl
+  flow_answers : (d : Result Decision FlowFault) → IsStatus (status_of d)
+  flow_answers (Ok (DecisionWords.Point w fs)) = refl
+  flow_answers (Ok (DecisionWords.Missing w n t)) = refl
   flow_answers (Err (FlowWords.Poly f)) = poly_answers f
   flow_answers (Err (FlowWords.Quadratic q u v)) = refl
   flow_answers (Err FlowWords.TooLarge) = refl
   flow_answers (Err (FlowWords.WideRow k)) = refl
-  flow_answers (Err (FlowWords.WidePivot n)) = limit_status (nat_le (n + 1) work) work (refusal 19 (pivot_line 1 n)) refl
+  flow_answers (Err (FlowWords.WidePivot n p)) = refl
+  flow_answers (Err FlowWords.Spent) = refl
   flow_answers (Err FlowWords.NoMemory) = refl
 
 -- ---- answers over texts
@@ -267,15 +258,19 @@ record Stands (ts : List (List ℕ)) (m : Model) (a : Annot) : Type 0 where
   model : IsModelText mt m
   info : IsInfoText it m a
 
+not_both : (v : Verb) → v ≡ Print → v ≡ Solve → ⊥
+not_both v e f = cc
+
 record PointAt (ts : List (List ℕ)) (o : Outcome) : Type 0 where
   model : Model
   annot : Annot
   stands : Stands ts model annot
   form : is_flow model annot ≡ true
-  pivots : ℕ
+  limit : ℕ
+  taken : ℕ
   values : List Frac
-  point : IsPoint model annot pivots values
-  says : o.says ≡ equilibrium_report (pivots + 1) (variable_names model) values
+  point : IsPoint model annot limit taken values
+  says : o.says ≡ equilibrium_report taken (variable_names model) values
 
 solve_point : (ts : List (List ℕ)) (m : Model) (a : Annot) (work : ℕ) (o : Outcome) → Stands ts m a → Solves m a work o → o.status ≡ 0 → PointAt ts o
 solve_point ts m a work o t (bad_owner f n b) e = absurd (omega arith)
@@ -287,9 +282,10 @@ solve_point ts m a work o t (flow d k f n g) e =
       annot = a;
       stands = t;
       form = f;
-      pivots = h.pivots;
+      limit = work;
+      taken = h.taken;
       values = h.values;
-      point = subst (DecideGives m a) h.is g;
+      point = subst (DecideGives m a work) h.is g;
       says = ap (λ p. p.says) h.outcome;
     }
 
@@ -297,7 +293,7 @@ point_at : (r : Asked) (ts : List (List ℕ)) (o : Outcome) → Answers r ts o �
 point_at r ts o (unbuilt us h) v e = absurd (omega arith)
 point_at r ts o (bad_model mt it f b n h) v e = absurd (omega arith)
 point_at r ts o (bad_info mt it m f b k n h) v e = absurd (omega arith)
-point_at r ts o (printed mt it m a t p k i c) v e = cc
+point_at r ts o (printed mt it m a t p k i c) v e = absurd (not_both r.verb p v)
 point_at r ts o (solved mt it m a p b w k i s) v e = solve_point (mt ∷ it ∷ []) m a r.work p (record { mt = mt; it = it; are = refl; model = k; info = i }) s e
 
 record NoneAt (ts : List (List ℕ)) : Type 0 where
@@ -305,16 +301,18 @@ record NoneAt (ts : List (List ℕ)) : Type 0 where
   annot : Annot
   stands : Stands ts model annot
   form : is_flow model annot ≡ true
-  pivots : ℕ
-  factors : List ℤ
-  missing : IsMissing model annot pivots factors
+  limit : ℕ
+  taken : ℕ
+  nodes : ℕ
+  tree : List Node
+  missing : IsMissing model annot limit taken nodes tree
 
 solve_none : (ts : List (List ℕ)) (m : Model) (a : Annot) (work : ℕ) (o : Outcome) → Stands ts m a → Solves m a work o → o.status ≡ 1 → NoneAt ts
 solve_none ts m a work o t (bad_owner f n b) e = absurd (omega arith)
 solve_none ts m a work o t (other_form k f) e = absurd (omega arith)
 solve_none ts m a work o t (flow d k f n g) e =
     let h = none_of m work d e in
-    record { model = m; annot = a; stands = t; form = f; pivots = h.pivots; factors = h.factors; missing = subst (DecideGives m a) h.is g }
+    record { model = m; annot = a; stands = t; form = f; limit = work; taken = h.taken; nodes = h.nodes; tree = h.tree.nodes; missing = subst (DecideGives m a work) h.is g }
 
 none_at : (r : Asked) (ts : List (List ℕ)) (o : Outcome) → Answers r ts o → o.status ≡ 1 → NoneAt ts
 none_at r ts o (unbuilt us h) e = absurd (omega arith)
@@ -336,7 +334,7 @@ canonical_at r ts o (unbuilt us h) v e = absurd (omega arith)
 canonical_at r ts o (bad_model mt it f b n h) v e = absurd (omega arith)
 canonical_at r ts o (bad_info mt it m f b k n h) v e = absurd (omega arith)
 canonical_at r ts o (printed mt it m a t p k i c) v e = record { model = m; annot = a; stands = record { mt = mt; it = it; are = refl; model = k; info = i }; text = t; canonical = c; says = refl }
-canonical_at r ts o (solved mt it m a p b w k i s) v e = cc
+canonical_at r ts o (solved mt it m a p b w k i s) v e = absurd (not_both r.verb v w)
 
 record ModelFaultAt (ts : List (List ℕ)) (o : Outcome) : Type 0 where
   mt : List ℕ
@@ -406,7 +404,7 @@ record UndecidedAt (ts : List (List ℕ)) (o : Outcome) : Type 0 where
   form : is_flow model annot ≡ true
   work : ℕ
   decision : Result Decision FlowFault
-  gives : DecideGives model annot decision
+  gives : DecideGives model annot work decision
   is : o ≡ flow_outcome model work decision
 
 solve_undecided : (ts : List (List ℕ)) (m : Model) (a : Annot) (work : ℕ) (o : Outcome) → Stands ts m a → Solves m a work o → 16 < o.status → o.status < 30 → UndecidedAt ts o
@@ -435,12 +433,12 @@ module _ (words : List (List ℕ)) (f0 f1 : Place → ℕ) where
         model = h.model;
         annot = h.annot;
         texts = texts_say words x n.request h.stands.mt h.stands.it h.model h.annot n.asked h.stands.are h.stands.model h.stands.info;
-        work = h.pivots + 1;
+        work = h.taken;
         values = h.values;
         said = subst (λ t. Says t x y) h.says n.said;
         point = common_point h.values;
         stands = stands;
-        equilibrium = points_are_equilibria h.model h.annot h.pivots h.values (common_point h.values) h.form h.point stands;
+        equilibrium = points_are_equilibria h.model h.annot h.limit h.taken h.values (common_point h.values) h.form h.point stands;
       }
 
   shows_none : (end : ℕ) → end ≡ 1 → (x y : Contents) → RunsNow end x y → ShowsNone words x y
@@ -451,7 +449,7 @@ module _ (words : List (List ℕ)) (f0 f1 : Place → ℕ) where
         model = h.model;
         annot = h.annot;
         texts = texts_say words x n.request h.stands.mt h.stands.it h.model h.annot n.asked h.stands.are h.stands.model h.stands.info;
-        none = λ p q. missing_have_none h.model h.annot h.pivots h.factors p h.form h.missing q;
+        none = λ p q. missing_have_none h.model h.annot h.limit h.taken h.nodes h.tree p h.form h.missing q;
       }
 
   says_canonical : (end : ℕ) → IsPrint words → end ≡ 0 → (x y : Contents) → RunsNow end x y → SaysCanonical words x y

@@ -1,5 +1,4 @@
 mod Blocks
-mod Within
 mod Answering
 mod Ending
 mod Headline

@@ -47,19 +47,19 @@ is_built_for Pieces o = false
 abbrev pub is_built : Asked → Bool
 is_built r = is_built_for r.verb r.output
 
--- ---- `solve`
--- a search of one node that made so many pivots, where the limit allows as many units as it took
-abbrev pub within : ℕ → ℕ → Outcome → Outcome
-within work pivots o = cond (nat_le (pivots + 1) work) o (refusal 20 (spent_line work))
+-- ---- `solve`, with a limit of so many units of work
+abbrev pub report_outcome : Model → Decision → Outcome
+report_outcome m (Point taken values) = saying 0 (equilibrium_report taken (variable_names m) values)
+report_outcome m (Missing taken nodes tree) = saying 1 (missing_report taken nodes tree.nodes)
 
 abbrev pub flow_outcome : Model → ℕ → Result Decision FlowFault → Outcome
-flow_outcome m work (Ok (Point pivots values)) = within work pivots (saying 0 (equilibrium_report (pivots + 1) (variable_names m) values))
-flow_outcome m work (Ok (Missing pivots factors)) = within work pivots (saying 1 (missing_report (pivots + 1) factors))
+flow_outcome m work (Ok d) = report_outcome m d
 flow_outcome m work (Err (FlowWords.Poly f)) = refusal (poly_status f) (poly_line f)
 flow_outcome m work (Err (FlowWords.Quadratic e u v)) = refusal 17 (quadratic_line m e u v)
 flow_outcome m work (Err FlowWords.TooLarge) = refusal 24 rows_line
 flow_outcome m work (Err (FlowWords.WideRow k)) = refusal 19 (row_line k)
-flow_outcome m work (Err (FlowWords.WidePivot n)) = within work n (refusal 19 (pivot_line 1 n))
+flow_outcome m work (Err (FlowWords.WidePivot node pivot)) = refusal 19 (pivot_line node pivot)
+flow_outcome m work (Err FlowWords.Spent) = refusal 20 (spent_line work)
 flow_outcome m work (Err FlowWords.NoMemory) = refusal 21 no_memory_line
 
 -- the fault is no want of memory
@@ -76,7 +76,7 @@ IsNamed (Err f) = IsNamedFault f
 pub data Solves (m : Model) (a : Annot) (work : ℕ) : Outcome → Type 0 where
   bad_owner : (f : OwnFault) → f ≢ OwnWords.NoMemory → IsFirstBroken m a f → Solves m a work (refusal 16 (own_line m f))
   other_form : IsKept m a → is_flow m a ≡ false → Solves m a work (refusal 30 not_yet_line)
-  flow : (d : Result Decision FlowFault) → IsKept m a → is_flow m a ≡ true → IsNamed d → DecideGives m a d → Solves m a work (flow_outcome m work d)
+  flow : (d : Result Decision FlowFault) → IsKept m a → is_flow m a ≡ true → IsNamed d → DecideGives m a work d → Solves m a work (flow_outcome m work d)
 
 -- ---- all commands
 pub data Answers (r : Asked) : List (List ℕ) → Outcome → Type 0 where

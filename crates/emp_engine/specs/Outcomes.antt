@@ -22,11 +22,11 @@ abbrev pub outcome_of : Answer → Outcome
 outcome_of (Report status text) = saying status text.items
 outcome_of (Refusal status line) = saying status line.items
 
--- what is answered over a file of variational inequalities over free variables
+-- what is answered over a file of variational inequalities without constraints
 pub record FlowAnswers (m : Model) (a : Annot) (work : ℕ) (o : Outcome) : Type 0 where
   pub decision : Result Decision FlowFault
   pub named : IsNamed decision
-  pub gives : DecideGives m a decision
+  pub gives : DecideGives m a work decision
   pub is : o ≡ flow_outcome m work decision
 
 -- the canonical texts

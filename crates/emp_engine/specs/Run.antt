@@ -126,7 +126,7 @@ pub record ShowsUndecided (status : ℕ) (words : List (List ℕ)) (before after
   pub form : is_flow model annot ≡ true
   pub work : ℕ
   pub decision : Result Decision FlowFault
-  pub gives : DecideGives model annot decision
+  pub gives : DecideGives model annot work decision
   pub ends : (flow_outcome model work decision).status ≡ status
   pub said : Says (flow_outcome model work decision).says before after
 

@@ -1,11 +1,10 @@
 //! What `solve` answers over a model and an annotation of it.
-ghost use Rattle.std.specs.Prelude.{◌≡◌, ◌≢◌, ◌<◌, true, length, Ok, Err, IfOk, MatchOption};
+ghost use Rattle.std.specs.Prelude.{◌≡◌, ◌≢◌, ◌<◌, true, length, Err, IfOk, MatchOption};
 ghost use Rattle.emp_flow.specs.Flow.{is_flow};
 ghost use Rattle.emp_owner.specs.declared.owned.OwnFault.TheVariants as own_words;
 ghost use Rattle.emp_owner.specs.Settled.{IsKept};
 ghost use Rattle.emp_lines.specs.TextLines.{not_yet_line, own_line};
-ghost use Rattle.emp_lines.specs.ClassLines.{spent_line};
-ghost use Rattle.emp_engine.specs.Answers.{saying, flow_outcome, IsNamedFault, Solves};
+ghost use Rattle.emp_engine.specs.Answers.{saying, report_outcome, flow_outcome, IsNamedFault, Solves};
 ghost use Rattle.emp_engine.specs.Outcomes.{outcome_of, FlowAnswers};
 
 use emp_ast::annot::Annot;
@@ -44,38 +43,23 @@ pub fn not_yet() -> Answer
     Answer::Refusal(30, texts::not_yet())
 }
 
-/// The refusal of a search that asked for more units of work than these.
-fn spent(work: u64) -> Answer
-    ensures { outcome_of result ≡ saying 20 (spent_line work) }
-{
-    Answer::Refusal(20, classes::spent_line(work))
-}
-
-/// The report of what was decided, where the limit allows the units that it took: one for the node and one for each pivot.
-#[tactic(auto, using(crate::proofs::Within::withins))]
-fn report(alloc: Global, model: &Model, work: u64, decision: &Decision) -> Result<Answer, NoMemory>
-    ensures { IfOk result (λ a. outcome_of a ≡ flow_outcome model.now work (Ok decision.now)) }
+/// The report of what was decided.
+fn report(alloc: Global, model: &Model, decision: &Decision) -> Result<Answer, NoMemory>
+    ensures { IfOk result (λ a. outcome_of a ≡ report_outcome model.now decision.now) }
 {
     match decision {
-        Decision::Point { pivots, values } => {
-            if *pivots >= work {
-                return Ok(spent(work));
-            }
-            let text = report::equilibrium(alloc, *pivots + 1, model, values.as_slice())?;
+        Decision::Point { work, values } => {
+            let text = report::equilibrium(alloc, *work, model, values.as_slice())?;
             Ok(Answer::Report(0, text))
         }
-        Decision::Missing { pivots, factors } => {
-            if *pivots >= work {
-                return Ok(spent(work));
-            }
-            let text = report::missing(alloc, *pivots + 1, factors.as_slice())?;
+        Decision::Missing { work, nodes, tree } => {
+            let text = report::missing(alloc, *work, *nodes, tree.nodes.as_slice())?;
             Ok(Answer::Report(1, text))
         }
     }
 }
 
 /// The refusal of a file that is not decided.
-#[tactic(auto, using(crate::proofs::Within::withins))]
 fn refusal(model: &Model, work: u64, fault: FlowFault) -> Result<Answer, NoMemory>
     ensures { IfOk result (λ a. IsNamedFault fault × (outcome_of a ≡ flow_outcome model.now work (Err fault))) }
 {
@@ -87,25 +71,23 @@ fn refusal(model: &Model, work: u64, fault: FlowFault) -> Result<Answer, NoMemor
         )),
         FlowFault::TooLarge => Ok(Answer::Refusal(24, classes::rows_line())),
         FlowFault::WideRow(row) => Ok(Answer::Refusal(19, classes::row_line(row))),
-        FlowFault::WidePivot(pivot) => {
-            if pivot >= work {
-                return Ok(spent(work));
-            }
-            Ok(Answer::Refusal(19, classes::pivot_line(1, pivot)))
+        FlowFault::WidePivot(node, pivot) => {
+            Ok(Answer::Refusal(19, classes::pivot_line(node, pivot)))
         }
+        FlowFault::Spent => Ok(Answer::Refusal(20, classes::spent_line(work))),
         FlowFault::NoMemory => Err(NoMemory),
     }
 }
 
-/// What is answered over a file of variational inequalities over free variables.
+/// What is answered over a file of variational inequalities without constraints.
 fn solve_flow(alloc: Global, model: &Model, annot: &Annot, work: u64) -> Result<Answer, NoMemory>
     requires flow { is_flow model.now annot.now ≡ true }
     requires variables { length model.now.variables < 4294967296 }
     requires equations { length model.now.equations < 4294967296 }
     ensures { IfOk result (λ a. FlowAnswers model.now annot.now work (outcome_of a)) }
 {
-    match decide(alloc, model, annot) {
-        Ok(decision) => report(alloc, model, work, &decision),
+    match decide(alloc, model, annot, work) {
+        Ok(decision) => report(alloc, model, &decision),
         Err(fault) => refusal(model, work, fault),
     }
 }

@@ -1,11 +1,12 @@
 //! Reports: a line of what was found, a line of its work, and what was found.
 ghost use Rattle.std.specs.Prelude.{◌≡◌, ◌++◌, codes, decimal, map, IfOk, OnOk};
 ghost use Rattle.std.specs.Fmt.{signed_decimal};
-ghost use Rattle.emp_report.specs.Report.{equilibrium_report, factors_text, missing_report, point_lines};
+ghost use Rattle.emp_report.specs.Report.{equilibrium_report, factors_text, missing_report, point_lines, row_text};
 ghost use Rattle.emp_num.specs.FracText.{fraction_text};
 ghost use Rattle.emp_ast.specs.Names.{variable_names};
 
 use emp_ast::model::{Model, Variable};
+use emp_cert::tree::Node;
 use emp_list::name::Name;
 use emp_num::frac::Frac;
 use emp_num::print::print_frac;
@@ -25,24 +26,23 @@ pub fn equilibrium(
 {
     let mut out = Vec::new(alloc);
     append(&mut out, b"equilibrium\n")?;
-    append_work(&mut out, work)?;
+    append_count(&mut out, b"work ", work)?;
     append_point(&mut out, model.variables.as_slice(), point)?;
     Ok(out)
 }
 
-/// The report that there is no equilibrium, with the factors of the rows, after that much work.
+/// The report that there is no equilibrium, after that much work and that many nodes, with the factors of the row where the
+/// root alone decides.
 ///
 /// The only error is that no memory is left.
-pub fn missing(alloc: Global, work: u64, factors: &[i128]) -> Result<Vec<u8>, AllocError>
-    ensures { IfOk result (λ v. v.items ≡ missing_report work factors.now) }
+pub fn missing(alloc: Global, work: u64, nodes: u64, tree: &[Node]) -> Result<Vec<u8>, AllocError>
+    ensures { IfOk result (λ v. v.items ≡ missing_report work nodes tree.now) }
 {
     let mut out = Vec::new(alloc);
     append(&mut out, b"no equilibrium\n")?;
-    append_work(&mut out, work)?;
-    append(&mut out, b"nodes 1\n")?;
-    append(&mut out, b"row")?;
-    append_factors(&mut out, factors)?;
-    append(&mut out, b"\n")?;
+    append_count(&mut out, b"work ", work)?;
+    append_count(&mut out, b"nodes ", nodes)?;
+    append_row(&mut out, tree)?;
     Ok(out)
 }
 
@@ -53,13 +53,26 @@ fn append(out: &mut Vec<u8>, text: &[u8]) -> Result<(), AllocError>
     Ok(())
 }
 
-fn append_work(out: &mut Vec<u8>, work: u64) -> Result<(), AllocError>
-    ensures { OnOk result (out.new.items ≡ out.old.items ++ codes "work " ++ decimal work ++ codes "\n") }
+/// A line with a count behind its word.
+fn append_count(out: &mut Vec<u8>, word: &[u8], count: u64) -> Result<(), AllocError>
+    ensures { OnOk result (out.new.items ≡ out.old.items ++ word.now ++ decimal count ++ codes "\n") }
 {
     let mut buffer = Buffer::new();
-    append(out, b"work ")?;
-    append(out, buffer.format(work).as_bytes())?;
+    append(out, word)?;
+    append(out, buffer.format(count).as_bytes())?;
     append(out, b"\n")
+}
+
+/// The line of the row where the root alone decides.
+fn append_row(out: &mut Vec<u8>, tree: &[Node]) -> Result<(), AllocError>
+    ensures { OnOk result (out.new.items ≡ out.old.items ++ row_text tree.now) }
+{
+    if let [Node::Farkas(factors)] = tree {
+        append(out, b"row")?;
+        append_factors(out, factors.as_slice())?;
+        append(out, b"\n")?;
+    }
+    Ok(())
 }
 
 fn append_number(out: &mut Vec<u8>, number: i128) -> Result<(), AllocError>
