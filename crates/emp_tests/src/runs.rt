@@ -281,15 +281,41 @@ fn asks_what_is_not_built(rt: HostRuntime) -> Result<(), Fail> {
 }
 
 #[test]
+fn finds_points_within_bounds(rt: HostRuntime) -> Result<(), Fail> {
+    for (parts, info, status, said) in [
+        // the upper of two bounds
+        (
+            "Variables x; Equations f; f.. x - 3 =n= 0; x.lo = 0; x.up = 2;",
+            "equilibrium vi f x",
+            0,
+            "equilibrium\nwork 3\nx = 2\n",
+        ),
+        // a fixed variable, whatever its function
+        (
+            "Variables x; Equations f; f.. x - 1 =n= 0; x.fx = 4;",
+            "equilibrium vi f x",
+            0,
+            "equilibrium\nwork 2\nx = 4\n",
+        ),
+        // none after a pair was split
+        (
+            "Positive Variables x, y; Equations f, g; f.. y - 1 =g= 0; g.. x + 1 =g= 0;",
+            "equilibrium vi f x g y",
+            1,
+            "no equilibrium\nwork 5\nnodes 3\n",
+        ),
+    ] {
+        solve_ends(&rt, rt.alloc(), parts, info, status, said)?;
+    }
+    Ok(())
+}
+
+#[test]
 fn files_that_are_not_built(rt: HostRuntime) -> Result<(), Fail> {
     for (parts, info) in [
         (
             "Variables z, x; Equations f; f.. z =e= x*x;",
             "equilibrium min z x f",
-        ),
-        (
-            "Variables x; Equations f; f.. x =n= 1; x.lo = 0;",
-            "equilibrium vi f x",
         ),
         (
             "Variables x; Equations f, g; f.. x =n= 1; g.. x =g= 0;",
