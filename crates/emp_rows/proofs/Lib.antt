@@ -1,16 +1,6 @@
 pub mod Quotients
-pub mod Exchange
-pub mod Moves
-pub mod Dictionaries
-pub mod WalkLaws
 pub mod Divided
 pub mod Reduced
-pub mod Steps
-pub mod Sound
-pub mod Joins
-pub mod Walks
-pub mod Goes
-pub mod WalkCount
 pub mod Tests
 pub mod Values
 pub mod Systems

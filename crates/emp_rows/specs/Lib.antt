@@ -1,11 +1,6 @@
 pub mod Quotients
 pub mod Systems
 pub mod Affine
-pub mod Pivot
-pub mod Steps
-pub mod Walk
-pub mod Tableau
-pub mod WalkLaws
 pub mod RowPoints
 pub mod Values
 pub mod Holding

@@ -1,11 +1,8 @@
-//! Rows of whole numbers, their dictionary, and the walk that decides whether all of them can be 0.
+//! Quantities of whole numbers, row systems, and the test that a point is one of a system.
 #![tactic(auto)]
 
 pub mod affine;
-pub mod laws;
-pub mod line;
 pub mod point;
 pub mod primitive;
 pub mod reduce;
 pub mod system;
-pub mod walk;
