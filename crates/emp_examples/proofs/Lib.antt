@@ -1,4 +1,5 @@
 pub mod Short
+pub mod Points
 pub mod Values
 pub mod Parties
 pub mod Rivals

@@ -1,4 +1,5 @@
 pub mod Small
+pub mod Points
 pub mod Values
 pub mod Parties
 pub mod Rivals

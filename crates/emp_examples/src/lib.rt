@@ -4,6 +4,7 @@
 //! stand in `specs/`, one subject a file.
 #![tactic(auto)]
 
+ghost use Rattle.emp_examples.specs.Points.{ExamplesOfPoints};
 ghost use Rattle.emp_examples.specs.Values.{ExamplesOfValues};
 ghost use Rattle.emp_examples.specs.Parties.{ExamplesOfParties, ExamplesOfImplicits, ExamplesOfDefinitions};
 ghost use Rattle.emp_examples.specs.Rivals.{ExamplesOfGivenValues, ExamplesOfRivals, ExamplesOfInequalities, ExamplesOfAgents};
@@ -11,6 +12,11 @@ ghost use Rattle.emp_examples.specs.Multipliers.{ExamplesOfMultipliers, Examples
 ghost use Rattle.emp_examples.specs.Sharing.{ExamplesOfSharing, ExamplesOfRations};
 ghost use Rattle.emp_examples.specs.Rules.{ExamplesOfRules};
 ghost use Rattle.emp_examples.specs.Bilevel.{ExamplesOfBilevel, ExamplesOfRays, ExamplesOfConvexity};
+
+/// The coordinates of a point, and which fractions stand for it.
+pub fn examples_of_points()
+    ensures { ExamplesOfPoints }
+{}
 
 /// The values of expressions, equations and bounds at points, and which nodes are an expression.
 pub fn examples_of_values()
