@@ -1,0 +1,5 @@
+pub mod Left
+pub mod GameOf
+pub mod Problem
+pub mod ProblemOf
+pub mod Class
