@@ -29,6 +29,19 @@ poly_status PolyWords.NoMemory = 21
 abbrev pub quadratic_line : Model → EquId → VarId → VarId → List ℕ
 quadratic_line m e u v = codes "error 17: quadratic constraint " ++ take 63 (equation_name m e) ++ codes " " ++ take 63 (variable_name m u) ++ codes " " ++ take 63 (variable_name m v) ++ codes "\n"
 
+abbrev pub leader_line : Model → VarId → VarId → List ℕ
+leader_line m u v = codes "error 17: leader not linear " ++ take 63 (variable_name m u) ++ codes " " ++ take 63 (variable_name m v) ++ codes "\n"
+
+-- agent and own variable are counted from 1
+abbrev pub convex_line : ℕ → ℕ → List ℕ
+convex_line agent k = codes "error 18: agent " ++ decimal agent ++ codes " is not convex at own variable " ++ decimal k ++ codes "\n"
+
+abbrev pub curvature_line : ℕ → ℕ → List ℕ
+curvature_line agent k = codes "error 19: wide curvature agent " ++ decimal agent ++ codes " variable " ++ decimal k ++ codes "\n"
+
+abbrev pub value_line : Model → VarId → List ℕ
+value_line m v = codes "error 19: wide value " ++ take 63 (variable_name m v) ++ codes "\n"
+
 abbrev pub row_line : ℕ → List ℕ
 row_line k = codes "error 19: wide row " ++ decimal k ++ codes "\n"
 

@@ -5,7 +5,7 @@ use Rattle.std.specs.Fmt.{signed_decimal}
 use Rattle.emp_num.specs.declared.frac.Frac.{Frac}
 use Rattle.emp_ast.specs.declared.model.Variable.{Variable}
 use Rattle.emp_num.specs.FracText.{fraction_text}
-use Rattle.emp_report.specs.Report.{point_lines, factors_text}
+use Rattle.emp_report.specs.Report.{each_line, value_line, point_lines, step_line, step_lines, factors_text}
 
 -- ---- factors
 abbrev factor_text : ℤ → List ℕ
@@ -28,57 +28,60 @@ more_factors before out zs i h e =
     ∙ append_assoc before (factors_text (take i zs)) (factor_text (get_or zs i (pos 0)))
     ∙ ap (λ t. before ++ t) (sym (factors_text-more zs i h))
 
--- ---- points
-abbrev value_line : List ℕ → Frac → List ℕ
-value_line n f = n ++ codes " = " ++ fraction_text f ++ codes "\n"
+-- ---- a line for each variable
+each_line-more : (line : List ℕ → Frac → List ℕ) (ns : List (List ℕ)) (fs : List Frac) (i : ℕ) (n : List ℕ) (f : Frac) → i < length ns → i < length fs → each_line line (take (i + 1) ns) (take (i + 1) fs) ≡ each_line line (take i ns) (take i fs) ++ line (get_or ns i n) (get_or fs i f)
+each_line-more line [] fs i n f h k = absurd (omega arith)
+each_line-more line (m ∷ ns) [] i n f h k = absurd (omega arith)
+each_line-more line (m ∷ ns) (g ∷ fs) zero n f h k = append-nil (line m g)
+each_line-more line (m ∷ ns) (g ∷ fs) (suc i) n f h k =
+    ap (λ j. each_line line (take j (m ∷ ns)) (take j (g ∷ fs))) (add-one (suc i))
+    ∙ ap (λ j. line m g ++ each_line line (take j ns) (take j fs)) (sym (add-one i))
+    ∙ ap (λ t. line m g ++ t) (each_line-more line ns fs i n f (omega arith) (omega arith))
+    ∙ sym (append_assoc (line m g) (each_line line (take i ns) (take i fs)) (line (get_or ns i n) (get_or fs i f)))
 
-point_lines-more : (ns : List (List ℕ)) (fs : List Frac) (i : ℕ) (n : List ℕ) (f : Frac) → i < length ns → i < length fs → point_lines (take (i + 1) ns) (take (i + 1) fs) ≡ point_lines (take i ns) (take i fs) ++ value_line (get_or ns i n) (get_or fs i f)
-point_lines-more [] fs i n f h k = absurd (omega arith)
-point_lines-more (m ∷ ns) [] i n f h k = absurd (omega arith)
-point_lines-more (m ∷ ns) (g ∷ fs) zero n f h k = append-nil (value_line m g)
-point_lines-more (m ∷ ns) (g ∷ fs) (suc i) n f h k =
-    ap (λ j. point_lines (take j (m ∷ ns)) (take j (g ∷ fs))) (add-one (suc i))
-    ∙ ap (λ j. value_line m g ++ point_lines (take j ns) (take j fs)) (sym (add-one i))
-    ∙ ap (λ t. value_line m g ++ t) (point_lines-more ns fs i n f (omega arith) (omega arith))
-    ∙ sym (append_assoc (value_line m g) (point_lines (take i ns) (take i fs)) (value_line (get_or ns i n) (get_or fs i f)))
-
-line-assoc : (out a b c d : List ℕ) → out ++ a ++ b ++ c ++ d ≡ out ++ (a ++ b ++ c ++ d)
-line-assoc out a b c d = simp append_assoc
-
--- one more line
-pub more_lines : (before out : List ℕ) (ns : List (List ℕ)) (fs : List Frac) (i : ℕ) (n : List ℕ) (f : Frac) → i < length ns → i < length fs → out ≡ before ++ point_lines (take i ns) (take i fs) → out ++ get_or ns i n ++ codes " = " ++ fraction_text (get_or fs i f) ++ codes "\n" ≡ before ++ point_lines (take (i + 1) ns) (take (i + 1) fs)
-more_lines before out ns fs i n f h k e =
-    line-assoc out (get_or ns i n) (codes " = ") (fraction_text (get_or fs i f)) (codes "\n")
-    ∙ ap (λ t. t ++ value_line (get_or ns i n) (get_or fs i f)) e
-    ∙ append_assoc before (point_lines (take i ns) (take i fs)) (value_line (get_or ns i n) (get_or fs i f))
-    ∙ ap (λ t. before ++ t) (sym (point_lines-more ns fs i n f h k))
-
--- the lines end with the shorter of the two lists
-pub all_lines : (ns : List (List ℕ)) (fs : List Frac) (i : ℕ) → (length ns ≤ i) ⊎ (length fs ≤ i) → point_lines (take i ns) (take i fs) ≡ point_lines ns fs
-all_lines [] fs zero h = refl
-all_lines [] fs (suc i) h = refl
-all_lines (m ∷ ns) [] zero h = refl
-all_lines (m ∷ ns) [] (suc i) h = refl
-all_lines (m ∷ ns) (g ∷ fs) zero h = absurd (omega arith)
-all_lines (m ∷ ns) (g ∷ fs) (suc i) h = ap (λ t. value_line m g ++ t) (all_lines ns fs i (shorter h))
-  where
-    shorter : (length (m ∷ ns) ≤ suc i) ⊎ (length (g ∷ fs) ≤ suc i) → (length ns ≤ i) ⊎ (length fs ≤ i)
-    shorter (inl p) = inl (omega arith)
-    shorter (inr p) = inr (omega arith)
-
--- ---- points by variable
+-- the name and the value of the variable at a place
 named_at : (vs : List Variable) (i : ℕ) (v : Variable) → i < length vs → get_or (map (λ v. v.name) vs) i v.name ≡ (get_or vs i v).name
 named_at [] i v h = absurd (omega arith)
 named_at (w ∷ vs) zero v h = refl
 named_at (w ∷ vs) (suc i) v h = named_at vs i v (omega arith)
 
-pub more_values : (before out : List ℕ) (vs : List Variable) (fs : List Frac) (i : ℕ) (v : Variable) (f : Frac) → i < length vs → i < length fs → out ≡ before ++ point_lines (take i (map (λ v. v.name) vs)) (take i fs) → out ++ (get_or vs i v).name ++ codes " = " ++ fraction_text (get_or fs i f) ++ codes "\n" ≡ before ++ point_lines (take (i + 1) (map (λ v. v.name) vs)) (take (i + 1) fs)
-more_values before out vs fs i v f h k e =
-    subst (λ n. out ++ n ++ codes " = " ++ fraction_text (get_or fs i f) ++ codes "\n" ≡ before ++ point_lines (take (i + 1) (map (λ v. v.name) vs)) (take (i + 1) fs)) (named_at vs i v h)
-    (more_lines before out (map (λ v. v.name) vs) fs i v.name f (subst (λ n. i < n) (sym (length-map vs (λ v. v.name))) h) k e)
+-- one more line
+more_lines : (line : List ℕ → Frac → List ℕ) (before out : List ℕ) (vs : List Variable) (fs : List Frac) (i : ℕ) (v : Variable) (f : Frac) → i < length vs → i < length fs → out ≡ before ++ each_line line (take i (map (λ v. v.name) vs)) (take i fs) → out ++ line (get_or vs i v).name (get_or fs i f) ≡ before ++ each_line line (take (i + 1) (map (λ v. v.name) vs)) (take (i + 1) fs)
+more_lines line before out vs fs i v f h k e =
+    subst (λ n. out ++ line n (get_or fs i f) ≡ before ++ each_line line (take (i + 1) (map (λ v. v.name) vs)) (take (i + 1) fs)) (named_at vs i v h)
+    (ap (λ t. t ++ line (get_or (map (λ v. v.name) vs) i v.name) (get_or fs i f)) e
+    ∙ append_assoc before (each_line line (take i (map (λ v. v.name) vs)) (take i fs)) (line (get_or (map (λ v. v.name) vs) i v.name) (get_or fs i f))
+    ∙ ap (λ t. before ++ t) (sym (each_line-more line (map (λ v. v.name) vs) fs i v.name f (subst (λ n. i < n) (sym (length-map vs (λ v. v.name))) h) k)))
+
+-- the lines end with the shorter of the two lists
+all_lines : (line : List ℕ → Frac → List ℕ) (ns : List (List ℕ)) (fs : List Frac) (i : ℕ) → (length ns ≤ i) ⊎ (length fs ≤ i) → each_line line (take i ns) (take i fs) ≡ each_line line ns fs
+all_lines line [] fs zero h = refl
+all_lines line [] fs (suc i) h = refl
+all_lines line (m ∷ ns) [] zero h = refl
+all_lines line (m ∷ ns) [] (suc i) h = refl
+all_lines line (m ∷ ns) (g ∷ fs) zero h = absurd (omega arith)
+all_lines line (m ∷ ns) (g ∷ fs) (suc i) h = ap (λ t. line m g ++ t) (all_lines line ns fs i (shorter h))
+  where
+    shorter : (length (m ∷ ns) ≤ suc i) ⊎ (length (g ∷ fs) ≤ suc i) → (length ns ≤ i) ⊎ (length fs ≤ i)
+    shorter (inl p) = inl (omega arith)
+    shorter (inr p) = inr (omega arith)
+
+lines_end : (line : List ℕ → Frac → List ℕ) (vs : List Variable) (fs : List Frac) (i : ℕ) → (length vs ≤ i) ⊎ (length fs ≤ i) → each_line line (take i (map (λ v. v.name) vs)) (take i fs) ≡ each_line line (map (λ v. v.name) vs) fs
+lines_end line vs fs i (inl h) = all_lines line (map (λ v. v.name) vs) fs i (inl (subst (λ n. n ≤ i) (sym (length-map vs (λ v. v.name))) h))
+lines_end line vs fs i (inr h) = all_lines line (map (λ v. v.name) vs) fs i (inr h)
+
+-- ---- points
+pub more_values : (before out : List ℕ) (vs : List Variable) (fs : List Frac) (i : ℕ) (v : Variable) (f : Frac) → i < length vs → i < length fs → out ≡ before ++ point_lines (take i (map (λ v. v.name) vs)) (take i fs) → out ++ value_line (get_or vs i v).name (get_or fs i f) ≡ before ++ point_lines (take (i + 1) (map (λ v. v.name) vs)) (take (i + 1) fs)
+more_values before out vs fs i v f h k e = more_lines value_line before out vs fs i v f h k e
 
 pub all_values : (vs : List Variable) (fs : List Frac) (i : ℕ) → (length vs ≤ i) ⊎ (length fs ≤ i) → point_lines (take i (map (λ v. v.name) vs)) (take i fs) ≡ point_lines (map (λ v. v.name) vs) fs
-all_values vs fs i (inl h) = all_lines (map (λ v. v.name) vs) fs i (inl (subst (λ n. n ≤ i) (sym (length-map vs (λ v. v.name))) h))
-all_values vs fs i (inr h) = all_lines (map (λ v. v.name) vs) fs i (inr h)
+all_values vs fs i h = lines_end value_line vs fs i h
 
-pub ruleset reports = (more_factors, more_values, all_values)
+-- ---- steps
+pub more_steps : (before out : List ℕ) (vs : List Variable) (fs : List Frac) (i : ℕ) (v : Variable) (f : Frac) → i < length vs → i < length fs → out ≡ before ++ step_lines (take i (map (λ v. v.name) vs)) (take i fs) → out ++ step_line (get_or vs i v).name (get_or fs i f) ≡ before ++ step_lines (take (i + 1) (map (λ v. v.name) vs)) (take (i + 1) fs)
+more_steps before out vs fs i v f h k e = more_lines step_line before out vs fs i v f h k e
+
+pub all_steps : (vs : List Variable) (fs : List Frac) (i : ℕ) → (length vs ≤ i) ⊎ (length fs ≤ i) → step_lines (take i (map (λ v. v.name) vs)) (take i fs) ≡ step_lines (map (λ v. v.name) vs) fs
+all_steps vs fs i h = lines_end step_line vs fs i h
+
+pub ruleset reports = (more_factors, more_values, all_values, more_steps, all_steps)

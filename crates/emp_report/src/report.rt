@@ -1,7 +1,7 @@
 //! Reports: a line of what was found, a line of its work, and what was found.
 ghost use Rattle.std.specs.Prelude.{◌≡◌, ◌++◌, codes, decimal, map, IfOk, OnOk};
 ghost use Rattle.std.specs.Fmt.{signed_decimal};
-ghost use Rattle.emp_report.specs.Report.{equilibrium_report, factors_text, missing_report, point_lines, row_text};
+ghost use Rattle.emp_report.specs.Report.{best_report, equilibrium_report, factors_text, missing_report, missing_text, point_lines, row_text, step_line, step_lines, unbounded_report, value_line, work_text};
 ghost use Rattle.emp_num.specs.FracText.{fraction_text};
 ghost use Rattle.emp_ast.specs.Names.{variable_names};
 
@@ -31,15 +31,65 @@ pub fn equilibrium(
     Ok(out)
 }
 
-/// The report that there is no equilibrium, after that much work and that many nodes, with the factors of the row where the
-/// root alone decides.
+/// The report of a best point of a bilevel file: the value of each variable in order, after that much work.
 ///
 /// The only error is that no memory is left.
-pub fn missing(alloc: Global, work: u64, nodes: u64, tree: &[Node]) -> Result<Vec<u8>, AllocError>
-    ensures { IfOk result (λ v. v.items ≡ missing_report work nodes tree.now) }
+pub fn best(alloc: Global, work: u64, model: &Model, point: &[Frac]) -> Result<Vec<u8>, AllocError>
+    ensures { IfOk result (λ v. v.items ≡ best_report work (variable_names model.now) point.now) }
 {
     let mut out = Vec::new(alloc);
-    append(&mut out, b"no equilibrium\n")?;
+    append(&mut out, b"best\n")?;
+    append_count(&mut out, b"work ", work)?;
+    append_point(&mut out, model.variables.as_slice(), point)?;
+    Ok(out)
+}
+
+/// The report of a ray: the value of each variable where it starts, and the step of each whose step is not 0.
+///
+/// The only error is that no memory is left.
+pub fn unbounded(
+    alloc: Global,
+    work: u64,
+    model: &Model,
+    point: &[Frac],
+    step: &[Frac],
+) -> Result<Vec<u8>, AllocError>
+    ensures { IfOk result (λ v. v.items ≡ unbounded_report work (variable_names model.now) point.now step.now) }
+{
+    let mut out = Vec::new(alloc);
+    append(&mut out, b"unbounded\n")?;
+    append_count(&mut out, b"work ", work)?;
+    append_point(&mut out, model.variables.as_slice(), point)?;
+    append_steps(&mut out, model.variables.as_slice(), step)?;
+    Ok(out)
+}
+
+/// The line that there is none.
+fn missing_line(bilevel: bool) -> &'static [u8]
+    ensures { result.now ≡ missing_text bilevel }
+{
+    if bilevel {
+        b"no bilevel point\n"
+    } else {
+        b"no equilibrium\n"
+    }
+}
+
+/// The report that there is no equilibrium, or in a bilevel file no admissible point, after that much work and that many
+/// nodes, with the factors of the row where the root alone decides.
+///
+/// The only error is that no memory is left.
+pub fn missing(
+    alloc: Global,
+    bilevel: bool,
+    work: u64,
+    nodes: u64,
+    tree: &[Node],
+) -> Result<Vec<u8>, AllocError>
+    ensures { IfOk result (λ v. v.items ≡ missing_report bilevel work nodes tree.now) }
+{
+    let mut out = Vec::new(alloc);
+    append(&mut out, missing_line(bilevel))?;
     append_count(&mut out, b"work ", work)?;
     append_count(&mut out, b"nodes ", nodes)?;
     append_row(&mut out, tree)?;
@@ -91,7 +141,7 @@ fn append_fraction(out: &mut Vec<u8>, fraction: Frac) -> Result<(), AllocError>
 }
 
 fn append_value(out: &mut Vec<u8>, name: &Name, value: Frac) -> Result<(), AllocError>
-    ensures { OnOk result (out.new.items ≡ out.old.items ++ name.now ++ codes " = " ++ fraction_text value ++ codes "\n") }
+    ensures { OnOk result (out.new.items ≡ out.old.items ++ value_line name.now value) }
 {
     append(out, name.as_bytes())?;
     append(out, b" = ")?;
@@ -105,6 +155,27 @@ fn append_point(out: &mut Vec<u8>, variables: &[Variable], point: &[Frac]) -> Re
 {
     for at in 0..variables.len().min(point.len()) {
         append_value(out, &variables[at].name, point[at])?;
+    }
+    Ok(())
+}
+
+/// The line of a step, where it is not 0.
+fn append_step(out: &mut Vec<u8>, name: &Name, step: Frac) -> Result<(), AllocError>
+    ensures { OnOk result (out.new.items ≡ out.old.items ++ step_line name.now step) }
+{
+    if step.num != 0 {
+        append(out, b"step ")?;
+        append_value(out, name, step)?;
+    }
+    Ok(())
+}
+
+#[tactic(auto, using(crate::proofs::ReportLemmas::reports))]
+fn append_steps(out: &mut Vec<u8>, variables: &[Variable], step: &[Frac]) -> Result<(), AllocError>
+    ensures { OnOk result (out.new.items ≡ out.old.items ++ step_lines (map (λ v. v.name) variables.now) step.now) }
+{
+    for at in 0..variables.len().min(step.len()) {
+        append_step(out, &variables[at].name, step[at])?;
     }
     Ok(())
 }
