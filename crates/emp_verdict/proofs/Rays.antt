@@ -52,8 +52,8 @@ same_along p v r q d w t x i is here step moved =
 
 -- ---- the point after t steps
 -- it is that of the row point after t steps
-after_file : (m : Model) (a : Annot) (p v q d r w : Point) (t : ℕ) → HasCoordinates m a p q → HasCoordinates m a v d → IsAfterSteps m a p v t r → IsAlong q d t w → a.bilevel ≡ true → IsFileOf m a w r
-after_file m a p v q d r w t here step after is bilevel = record {
+after_file : (m : Model) (a : Annot) (p v q d r w : Point) (t : ℕ) → HasCoordinates m a p q → HasCoordinates m a v d → IsAfterSteps m a p v t r → IsAlong q d t w → IsFileOf m a w r
+after_file m a p v q d r w t here step after is = record {
   fits = after.fits;
   definitions = record { blocks = λ k l. after.given k l; leads = λ b. after.leader_given };
   same = λ i l. let x = left_meets m a i l in same_along p v r q d w t (get_or (left m a) i 0) i is (here i l) (step i l) (after.moved (get_or (left m a) i 0) x.0 x.1);
@@ -104,7 +104,7 @@ pub rays_are_rays : FileIsGame → RaysAreRays
 rays_are_rays laws m a s p v q d rows bilevel ray file fits step = record {
   start = points_admissible laws m a s p q rows bilevel ray.point file;
   after = λ t. some_after laws m a s p v t rows bilevel;
-  admissible = λ t r after. let w = some_along q d t in points_admissible laws m a s r w.0 rows bilevel (ray_solves s q d ray t w.0 w.1) (after_file m a p v q d r w.0 t file.same step after w.1 bilevel);
+  admissible = λ t r after. let w = some_along q d t in points_admissible laws m a s r w.0 rows bilevel (ray_solves s q d ray t w.0 w.1) (after_file m a p v q d r w.0 t file.same step after w.1);
   improves = better;
 }
   where
@@ -113,5 +113,5 @@ rays_are_rays laws m a s p v q d rows bilevel ray file fits step = record {
         let w = some_along q d t in
         let x = some_along q d (t + 1) in
         let o = has_objective rows.times m a a.bilevel rows.game.leader s.objective bilevel rows.is.leads rows.system.objective in
-        (orders_agree laws m a s x.0 w.0 u r rows bilevel (ray_solves s q d ray (t + 1) x.0 x.1) (ray_solves s q d ray t w.0 w.1) (after_file m a p v q d u x.0 (t + 1) file.same step later x.1 bilevel) (after_file m a p v q d r w.0 t file.same step here w.1 bilevel)).0
+        (orders_agree laws m a s x.0 w.0 u r rows bilevel (ray_solves s q d ray (t + 1) x.0 x.1) (ray_solves s q d ray t w.0 w.1) (after_file m a p v q d u x.0 (t + 1) file.same step later x.1) (after_file m a p v q d r w.0 t file.same step here w.1)).0
         (ray_below s q d ray o.0 o.1 t w.0 x.0 w.1 x.1)

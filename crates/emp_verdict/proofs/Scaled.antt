@@ -17,7 +17,7 @@ use Rattle.emp_rows.specs.declared.system.RowSystem.{RowSystem}
 use Rattle.emp_rows.specs.RowPoints.{sort_of, quantity, value_at, AreOfKind, OneVanishes, Solves}
 use Rattle.emp_quantities.specs.System.{IsBelowBy}
 
--- the numbers and the den times those of k's den
+-- p with its numbers and den times the den of k
 abbrev pub over : Point → Point → Point
 over k p = record { den = k.den *ℤ p.den; nums = scale k.den p.nums; positive = mul_pos k.den p.den k.positive p.positive }
 
