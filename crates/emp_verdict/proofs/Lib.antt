@@ -1,0 +1,5 @@
+pub mod Scaled
+pub mod Places
+pub mod Rows
+pub mod Verdicts
+pub mod Rays
