@@ -1,0 +1,3 @@
+pub mod MovePoints
+pub mod Move
+pub mod Deviations
