@@ -1,3 +1,4 @@
 pub mod MovePoints
 pub mod Move
 pub mod Deviations
+pub mod MoveRules

@@ -4,7 +4,8 @@ use Rattle.std.specs.Prelude.{slice_get, ◌&&◌}
 use Rattle.std.specs.List.{list_any}
 use Rattle.std.proofs.lemmas.Bool.{eq-eqb, eqb-true, and_parts, or_cases, or_left, or_right, false≢true, cases_lt}
 use Rattle.std.proofs.lemmas.List.{get_or-map, get_or_past, length-map}
-use Rattle.std.proofs.lemmas.Option.{slice_get_within}
+use Rattle.std.proofs.lemmas.Option.{slice_get_within, get_or_from_slice_get}
+use Rattle.std.proofs.lemmas.List.Elements.{All-get_or}
 use Rattle.emp_algebra.specs.Vector.{cell}
 use Rattle.emp_num.specs.Ratio.{Ratio}
 use Rattle.emp_num.specs.Point.{Point}
@@ -23,7 +24,7 @@ use Rattle.emp_game.specs.Game.{Player, Ranges, range_at}
 use Rattle.emp_left.specs.Left.{selected}
 use Rattle.emp_problem.specs.Left.{left, place, range_of}
 use Rattle.emp_problem.specs.GameOf.{IsPlayerOf}
-use Rattle.emp_problem.specs.Class.{IsClassFile}
+use Rattle.emp_problem.specs.Class.{BlockFits, IsClassFile}
 use Rattle.emp_meaning.specs.Laws.{left_nums}
 use Rattle.emp_meaning.specs.Ties.{left_at, Places, Owners, Values}
 
@@ -37,6 +38,11 @@ pub record IsTied (n : ℤ) (m : Model) (a : Annot) (ranges : Ranges) (k : ℕ) 
   pub values : Values n m a
   pub there : slice_get a.blocks k ≡ Some b
   pub player : IsPlayerOf n m a k b pl
+
+-- the numbers that the block names are those of the model
+pub block_fits : (m : Model) (a : Annot) (k : ℕ) (b : Block) → IsClassFile m a → slice_get a.blocks k ≡ Some b → BlockFits (length m.variables) (length m.equations) b
+block_fits m a k b class at =
+    subst (λ x. BlockFits (length m.variables) (length m.equations) x) (get_or_from_slice_get a.blocks k b b at) (All-get_or (BlockFits (length m.variables) (length m.equations)) a.blocks k b (slice_get_within a.blocks k b at) class.fits.blocks)
 
 -- ---- coordinates
 pub left_count : (m : Model) (a : Annot) (p : Point) → length (left_nums m a p) ≡ length (left m a)
@@ -59,7 +65,7 @@ pub range_is : (m : Model) (a : Annot) (ranges : Ranges) (i : ℕ) → ranges �
 range_is m a ranges i is h = ap (λ rs. range_at rs i) is ∙ get_or-map (range_of m) (left m a) i 0 (Open, Open) h
 
 -- ---- objectives that are defined
-named_passes : (test : ℕ → Bool) (es : List EquId) (e : ℕ) → names_equation es e ≡ true → test e ≡ true → list_any (λ x. test x.at) es ≡ true
+pub named_passes : (test : ℕ → Bool) (es : List EquId) (e : ℕ) → names_equation es e ≡ true → test e ≡ true → list_any (λ x. test x.at) es ≡ true
 named_passes test [] e h t = absurd (false≢true h)
 named_passes test (x ∷ es) e h t = go (or_cases (nat_eq x.at e) (names_equation es e) h) (named_passes test es e)
   where
@@ -67,7 +73,7 @@ named_passes test (x ∷ es) e h t = go (or_cases (nat_eq x.at e) (names_equatio
     go (inl s) rest = or_left (test x.at) (list_any (λ y. test y.at) es) (ap test (eqb-true x.at e s) ∙ t)
     go (inr s) rest = or_right (test x.at) (list_any (λ y. test y.at) es) (rest s t)
 
-some_passes : (test : ℕ → Bool) (es : List EquId) → list_any (λ x. test x.at) es ≡ true → (e : ℕ) × (test e ≡ true)
+pub some_passes : (test : ℕ → Bool) (es : List EquId) → list_any (λ x. test x.at) es ≡ true → (e : ℕ) × (test e ≡ true)
 some_passes test [] h = absurd (false≢true h)
 some_passes test (x ∷ es) h = go (or_cases (test x.at) (list_any (λ y. test y.at) es) h) (some_passes test es)
   where
