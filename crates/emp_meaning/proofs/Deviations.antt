@@ -42,7 +42,7 @@ use Rattle.emp_problem.specs.Class.{BlockFits, IsClassFile}
 use Rattle.emp_meaning.specs.Laws.{left_nums}
 use Rattle.emp_meaning.specs.Ties.{left_at, signed_ratio, Values, Deviates, Deviations}
 use Rattle.emp_meaning.proofs.MovePoints.{HasCoordinates, with_coordinates}
-use Rattle.emp_meaning.proofs.Move.{IsTied, block_fits, left_count, left_cell, left_past, placed_cell, range_count, range_is, defines_own, defined_among, defined_unbound}
+use Rattle.emp_meaning.proofs.Move.{IsTied, block_fits, scaled_same, left_count, left_cell, left_past, placed_cell, range_count, range_is, defines_own, defined_among, defined_unbound}
 
 -- ---- equal fractions in one range
 range_same : (r : End × End) (x y : Ratio) → SameFraction x y → InRange r x → InRange r y
@@ -173,12 +173,6 @@ module _ (n : ℤ) (m : Model) (a : Annot) (ranges : Ranges) (k : ℕ) (b : Bloc
       ext_get_or (pos 0) (left_nums m a c.point) (scale c.times ys) (left_count m a c.point ∙ (sym count ∙ sym (length-scale c.times ys)))
       (λ i l. moved_cell p e ys c i above (let s = left_count m a c.point in omega arith) ∙ sym (cell-scale c.times ys i))
 
-  moved_same : (p : Point) (e : ℤ) (ys : List ℤ) (c : Moved p e ys) → left_nums m a c.point ≡ scale c.times ys → AreSame e ys c.point.den (left_nums m a c.point)
-  moved_same p e ys c is i =
-      ap (λ z. cell ys i *ℤ z) c.den
-      ∙ (by_ring (cell ys i ∷ c.times ∷ e ∷ []) (var 0 ⊗ (var 1 ⊗ var 2)) (var 1 ⊗ var 0 ⊗ var 2) refl
-      ∙ ap (λ z. z *ℤ e) (sym (ap (λ zs. cell zs i) is ∙ cell-scale c.times ys i)))
-
   up : (p : Point) (e : ℤ) (ys : List ℤ) → Fits m p → pos 0 <ℤ e → Play.IsDeviation ranges pl p.den (left_nums m a p) e ys → Deviates m a k p e ys
   up p e ys fits above d = record {
     point = r;
@@ -186,7 +180,7 @@ module _ (n : ℤ) (m : Model) (a : Annot) (ranges : Ranges) (k : ℕ) (b : Bloc
       fits = c.count;
       others = λ v l other. agrees v l other (cases_Bool (is_defined m a v));
       bounds = λ v x at own. within v x at own (cases_Bool (is_defined m a v));
-      definition = meets_definition b pl.purpose r e ys tied.there tied.player.purpose c.count above (moved_same p e ys c nums) (λ v l is own. subst (λ x. SameRatio (coordinate r v) x) (moves_own p e ys v is own) (c.each v l));
+      definition = meets_definition b pl.purpose r e ys tied.there tied.player.purpose c.count above (scaled_same c.times e ys r.den (left_nums m a r) c.den nums) (λ v l is own. subst (λ x. SameRatio (coordinate r v) x) (moves_own p e ys v is own) (c.each v l));
     };
     times = c.times;
     positive = c.positive;

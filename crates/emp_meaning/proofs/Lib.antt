@@ -2,3 +2,4 @@ pub mod MovePoints
 pub mod Move
 pub mod Deviations
 pub mod MoveRules
+pub mod Solved

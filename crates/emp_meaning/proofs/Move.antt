@@ -6,7 +6,10 @@ use Rattle.std.proofs.lemmas.Bool.{eq-eqb, eqb-true, and_parts, or_cases, or_lef
 use Rattle.std.proofs.lemmas.List.{get_or-map, get_or_past, length-map}
 use Rattle.std.proofs.lemmas.Option.{slice_get_within, get_or_from_slice_get}
 use Rattle.std.proofs.lemmas.List.Elements.{All-get_or}
-use Rattle.emp_algebra.specs.Vector.{cell}
+use Rattle.emp_algebra.specs.Vector.{cell, scale}
+use Rattle.emp_algebra.proofs.Ring.{var, ◌⊗◌, by_ring}
+use Rattle.emp_algebra.proofs.Vectors.{cell-scale}
+use Rattle.emp_systems.specs.Same.{AreSame}
 use Rattle.emp_num.specs.Ratio.{Ratio}
 use Rattle.emp_num.specs.Point.{Point}
 use Rattle.emp_ast.specs.declared.tree.EquId.{EquId}
@@ -56,6 +59,13 @@ left_past m a p i h = get_or_past (left_nums m a p) i (pos 0) (let l = left_coun
 
 pub placed_cell : (m : Model) (a : Annot) (p : Point) (v : ℕ) → Places m a → v < length m.variables → is_defined m a v ≡ false → cell (left_nums m a p) (place m a v) ≡ cell p.nums v
 placed_cell m a p v places within free = let at = places.placed v within free in left_cell m a p (place m a v) at.0 ∙ ap (λ u. cell p.nums u) at.1
+
+-- larger numbers in the same proportion
+pub scaled_same : (t e : ℤ) (ys : List ℤ) (d : ℤ) (zs : List ℤ) → d ≡ t *ℤ e → zs ≡ scale t ys → AreSame e ys d zs
+scaled_same t e ys d zs is are i =
+    ap (λ z. cell ys i *ℤ z) is
+    ∙ (by_ring (cell ys i ∷ t ∷ e ∷ []) (var 0 ⊗ (var 1 ⊗ var 2)) (var 1 ⊗ var 0 ⊗ var 2) refl
+    ∙ ap (λ z. z *ℤ e) (sym (ap (λ ws. cell ws i) are ∙ cell-scale t ys i)))
 
 -- ---- ranges
 pub range_count : (m : Model) (a : Annot) (ranges : Ranges) → ranges ≡ map (range_of m) (left m a) → length ranges ≡ length (left m a)
