@@ -102,7 +102,7 @@ obeys_from n m vs d xs [] (r ∷ rs) of each = absurd of
 obeys_from n m vs d xs (e ∷ es) [] of each = absurd of
 obeys_from n m vs d xs (e ∷ es) (r ∷ rs) of each = (
   each e.at r (or_left (nat_eq e.at e.at) (names_equation es e.at) (eq-eqb e.at e.at refl)) of.0,
-  obeys_from n m vs d xs es rs of.1 (λ j s named. each j s (or_right (nat_eq e.at j) (names_equation es j) named))
+  obeys_from n m vs d xs es rs of.1 (λ j s named. each j s (or_right (nat_eq e.at j) (names_equation es j) named)),
 )
 
 -- the rule of an equation, obeyed
