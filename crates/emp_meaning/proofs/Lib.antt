@@ -4,3 +4,4 @@ pub mod Deviations
 pub mod MoveRules
 pub mod MoveFlows
 pub mod Solved
+pub mod MoveGame
