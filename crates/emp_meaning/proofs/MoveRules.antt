@@ -1,21 +1,18 @@
 -- The constraints of a block and the rules of its player, one by one; a point meets the ones exactly where its coordinates obey the others.
-use Rattle.std.proofs.Common.{◌≡◌, ◌⊎◌, inl, inr, ℕ, zero, suc, ◌<◌, ◌≤◌, ℤ, Bool, true, false, not, ◌||◌, nat_eq, List, [], ◌∷◌, All, length, Option, Some, None, arith, refl, sym, ap, subst, ◌∙◌}
-use Rattle.std.specs.Prelude.{slice_get, filter, ◌&&◌}
+use Rattle.std.proofs.Common.{◌≡◌, ◌⊎◌, inl, inr, ℕ, zero, suc, ◌<◌, ◌≤◌, ℤ, Bool, true, false, not, ◌||◌, nat_eq, List, [], ◌∷◌, All, length, Some, arith, refl, sym, ap, subst, ◌∙◌}
+use Rattle.std.specs.Prelude.{slice_get, ◌&&◌}
 use Rattle.std.specs.List.{list_any}
 use Rattle.std.proofs.lemmas.Bool.{eq-eqb, eqb-true, and_parts, and_from, or_cases, or_left, or_right, false≢true, cases_lt}
 use Rattle.std.proofs.lemmas.List.Elements.{All-head, All-tail}
 use Rattle.std.proofs.lemmas.Option.{slice_get_within}
 use Rattle.emp_num.specs.Point.{Point}
-use Rattle.emp_ast.specs.declared.tree.VarId.{VarId}
 use Rattle.emp_ast.specs.declared.tree.EquId.{EquId}
-use Rattle.emp_ast.specs.declared.model.Equation.{Equation}
-use Rattle.emp_ast.specs.declared.model.Relation.{Relation}
 use Rattle.emp_ast.specs.declared.model.Model.{Model}
 use Rattle.emp_ast.specs.declared.annot.Block.{Block}
 use Rattle.emp_ast.specs.declared.annot.Block.TheVariants.{Agent, Vi}
 use Rattle.emp_ast.specs.declared.annot.Annot.{Annot}
 use Rattle.emp_ast.specs.Meets.{MeetsEquation}
-use Rattle.emp_ast.specs.Parties.{block, leader, names_variable, names_equation, block_variables, listed_equations, block_equations, equations_by, equations, defines, block_functions, is_constraint, constraints, EachConstraint}
+use Rattle.emp_ast.specs.Parties.{block, leader, names_variable, names_equation, block_variables, listed_equations, equations_by, equations, defines, block_functions, is_constraint, constraints, EachConstraint}
 use Rattle.emp_ast.specs.Rivals.{Fits}
 use Rattle.emp_game.specs.Game.{Rule, Player, Ranges}
 use Rattle.emp_game.specs.Solved.{value_at, IsObeyed, Obeys}

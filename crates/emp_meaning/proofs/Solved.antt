@@ -1,5 +1,5 @@
 -- A block is solved at a point of the file where its player is solved at the coordinates that are left.
-use Rattle.std.proofs.Common.{◌≡◌, ◌⊎◌, inl, inr, ℕ, ℤ, pos, neg_ℤ, ◌+ℤ◌, ◌*ℤ◌, ◌≤ℤ◌, ◌<ℤ◌, List, [], ◌∷◌, Option, Some, None, arith, refl, sym, ap, ap₂, subst, ◌∙◌}
+use Rattle.std.proofs.Common.{◌≡◌, ◌⊎◌, inl, inr, ℕ, ℤ, pos, neg_ℤ, ◌+ℤ◌, ◌*ℤ◌, ◌≤ℤ◌, ◌<ℤ◌, List, [], ◌∷◌, Some, arith, refl, sym, ap, ap₂, subst, ◌∙◌}
 use Rattle.std.specs.Prelude.{slice_get}
 use Rattle.std.proofs.lemmas.Option.{slice_get_within}
 use Rattle.emp_algebra.specs.Vector.{cell, dot, scale}
@@ -210,7 +210,7 @@ module _ (n : ℤ) (m : Model) (a : Annot) (ranges : Ranges) (k : ℕ) (b : Bloc
         same = ap (λ z. z *ℤ (r.den *ℤ p.den)) (by_ring (y ∷ p.den ∷ x ∷ r.den ∷ []) (var 0 ⊗ var 1 ⊕ neg (var 2) ⊗ var 3) (var 1 ⊗ var 0 ⊕ neg (var 3) ⊗ var 2) refl ∙ sym there);
       }
 
-  -- the sum of a flow is at least 0 along the way to r exactly where the flow row's product is not smaller at r
+  -- the sum of the flow along the way to r is the flow row's product with that way
   flow_step : (p r : Point) (zeros : List VarId) (pairs : List (EquId × VarId)) (equs : List EquId) (fs : List Row) → slice_get a.blocks k ≡ Some (Vi zeros pairs equs) → AreFlowsOf n m (left m a) (block_flow (Vi zeros pairs equs)) fs → Fits m p → FlowIs m p (step_to p r) pairs (dot (flow_row pl.own fs p.den (left_nums m a p)) (steps p r)) (n *ℤ p.den *ℤ (r.den *ℤ p.den))
   flow_step p r zeros pairs equs fs at of fits =
       flow_is n m a ranges k b pl tied p (step_to p r) (steps p r) (r.den *ℤ p.den) zeros pairs equs fs at of fits (mul_pos r.den p.den r.positive p.positive) (step_weighs p r)
