@@ -4,4 +4,5 @@
 //! says of the file stands in `specs/Tells.antt`.
 #![tactic(auto)]
 
+pub mod fill;
 pub mod state;

@@ -1,5 +1,5 @@
 //! The row system of a file.
-ghost use Rattle.std.specs.Prelude.{◌≡◌, ◌<◌, length};
+ghost use Rattle.std.specs.Prelude.{◌≡◌, ◌<◌, ◌≤◌, length, IfOk};
 ghost use Rattle.emp_owner.specs.Settled.{IsKept, AreOwned};
 ghost use Rattle.emp_problem.specs.Class.{AnnotFits, GoalFits};
 ghost use Rattle.emp_solution.specs.Stated.{StateGives};
@@ -49,7 +49,8 @@ pub fn state(alloc: Global, model: &Model, annot: &Annot, owned: &Owned) -> Resu
     requires variables { length model.now.variables < 4294967296 }
     requires equations { length model.now.equations < 4294967296 }
     requires blocks { length annot.now.blocks < 4294967296 }
-    ensures { StateGives model.now annot.now result }
+    ensures gives { StateGives model.now annot.now result }
+    ensures base { IfOk result (λ s. length s.problem.variables ≤ s.system.base) }
 {
     Err(StateFault::NoMemory)
 }
