@@ -1,0 +1,2 @@
+pub mod PriceLists
+pub mod Multipliers
