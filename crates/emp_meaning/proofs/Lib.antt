@@ -1,2 +1,3 @@
 pub mod PriceLists
 pub mod Multipliers
+pub mod Prices

@@ -96,7 +96,7 @@ abbrev pub EachListed : Model → Annot → Party → List EquId → Type 0
 EachListed m a k [] = Unit {0}
 EachListed m a k (e ∷ es) = Listed m a k e.at × EachListed m a k es
 
-pub there_is : (qs : List Equation) (i : ℕ) → i < length qs → (q : Equation) × (slice_get qs i ≡ Some q)
+pub there_is : {X : Type 0} (qs : List X) (i : ℕ) → i < length qs → (q : X) × (slice_get qs i ≡ Some q)
 there_is [] i h = absurd (omega arith)
 there_is (q ∷ qs) zero h = (q, refl)
 there_is (q ∷ qs) (suc i) h = there_is qs i (omega arith)
