@@ -1,3 +1,6 @@
+pub mod MovePoints
+pub mod Move
+pub mod Deviations
 pub mod PriceLists
 pub mod Multipliers
 pub mod Prices
