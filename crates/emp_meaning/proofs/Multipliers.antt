@@ -5,7 +5,6 @@ use Rattle.std.specs.List.{filter}
 use Rattle.std.proofs.lemmas.Int.{ints}
 use Rattle.std.proofs.lemmas.Bool.{eqb-true, false≢true}
 use Rattle.std.proofs.lemmas.Option.{slice_get_within}
-use Rattle.std.proofs.lemmas.List.{get_or-map}
 use Rattle.std.proofs.lemmas.List.Elements.{All-head, All-tail}
 use Rattle.std.proofs.lemmas.List.Folds.{list_any-append}
 use lib.IntN.{*ℤ-zero}
@@ -62,6 +61,8 @@ use Rattle.emp_problem.specs.GameOf.{IsRowOf, IsQuadraticOf, AreFlowsOf, IsPurpo
 use Rattle.emp_problem.specs.Class.{BlockFits, is_affine, IsClassFile}
 use Rattle.emp_meaning.specs.Laws.{left_nums}
 use Rattle.emp_meaning.specs.Ties.{left_at, IsParty, Places, GapIs, signed_ratio, Values, Deviates, Deviations}
+use Rattle.emp_meaning.proofs.Move.{IsTied, placed_cell}
+use Rattle.emp_meaning.proofs.Deviations.{deviations}
 use Rattle.emp_meaning.proofs.PriceLists.{decided, all_here, there_is, Listed, EachListed, constraint_named, constraints_listed, function_affine}
 
 -- ---- values that are there
@@ -199,10 +200,6 @@ module _ (n : ℤ) (m : Model) (a : Annot) (k : ℕ) (num : ℕ → ℤ) (pn : p
       (added here rest b (mul_pos d (n *ℤ r.den) pd (mul_pos n r.den pn r.positive))))
 
 -- ---- the purpose
--- what no equation defines stands at its place
-pub left_cell : (m : Model) (a : Annot) → Places m a → (v : ℕ) (p : Point) → v < length m.variables → is_defined m a v ≡ false → cell (left_nums m a p) (place m a v) ≡ cell p.nums v
-left_cell m a places v p l h = let t = places.placed v l h in get_or-map (λ u. cell p.nums u) (left m a) (place m a v) 0 (pos 0) t.0 ∙ ap (cell p.nums) t.1
-
 abbrev pub own_places : Model → Annot → List VarId → List ℕ
 own_places m a vs = map (λ v. place m a v.at) vs
 
@@ -270,7 +267,7 @@ module _ (n : ℤ) (m : Model) (a : Annot) (pn : pos 0 <ℤ n) where
       let pb = mul_pos (n *ℤ p.den) r.den (mul_pos n p.den pn p.positive) r.positive in
       let row = subst (λ o. IsRowOf n (left m a) (equation_form o) x) one.at h.0 in
       let g = gap_value p one.equation z (n *ℤ p.den) (mul_pos n p.den pn p.positive) (values.gap q.0.at one.equation x p one.at one.affine row f) in
-      let there : SameFraction (coordinate r q.1.at) (ratio c r.den) = record { left = r.positive; right = r.positive; same = ap (λ y. y *ℤ r.den) (sym (left_cell m a places q.1.at r one.below one.stays)) } in
+      let there : SameFraction (coordinate r q.1.at) (ratio c r.den) = record { left = r.positive; right = r.positive; same = ap (λ y. y *ℤ r.den) (sym (placed_cell m a r q.1.at places one.below one.stays)) } in
       let first : SameValue (option_map (λ y. times y (coordinate r q.1.at)) (gap m p q.0.at)) (Some (ratio (z *ℤ c) b)) =
       subst (λ o. SameValue (option_map (λ y. times y (coordinate r q.1.at)) (gap_by p o)) (Some (ratio (z *ℤ c) b))) (sym one.at) (weighed_by (coordinate r q.1.at) (ratio c r.den) (sides_gap p one.equation) (ratio z (n *ℤ p.den)) there g) in
       subst (λ y. SameValue (flow m p (λ v. coordinate r v) (q ∷ qs)) (Some (ratio y b))) (sym (flow_more (place m a q.1.at) (own_places m a (map (λ y. y.1) qs)) x fs p.den (left_nums m a p) (left_nums m a r)))
@@ -279,15 +276,6 @@ module _ (n : ℤ) (m : Model) (a : Annot) (pn : pos 0 <ℤ n) where
       (added (z *ℤ c) rest b pb))
 
 -- ---- a block and its player
-pub record IsTied (n : ℤ) (m : Model) (a : Annot) (k : ℕ) (b : Block) (ranges : Ranges) (pl : Player) : Type 0 where
-  pub positive : pos 0 <ℤ n
-  pub class : IsClassFile m a
-  pub at : slice_get a.blocks k ≡ Some b
-  pub places : Places m a
-  pub values : Values n m a
-  pub deviations : Deviations m a ranges k pl
-  pub player : IsPlayerOf n m a k b pl
-
 -- with no objective nothing is defined
 not_defined : (m : Model) (a : Annot) (k : Party) (v : ℕ) → objective m a k ≡ None → is_defined_of m a k v ≡ false
 not_defined m a k v h = ap (is_defined_by m a k v) h
@@ -438,7 +426,7 @@ selected_scaled h (v ∷ vs) xs = ap₂ (λ (y : ℤ) (ys : List ℤ). y ∷ ys)
 pub stretched_fits : (m : Model) (h : ℤ) (s : pos 0 <ℤ h) (p : Point) → Fits m p → Fits m (stretched h s p)
 stretched_fits m h s p f = length-scale h p.nums ∙ f
 
-module _ (n : ℤ) (m : Model) (a : Annot) (k : ℕ) (b : Block) (ranges : Ranges) (pl : Player) (t : IsTied n m a k b ranges pl) (num : ℕ → ℤ) where
+module _ (n : ℤ) (m : Model) (a : Annot) (ranges : Ranges) (k : ℕ) (b : Block) (pl : Player) (t : IsTied n m a ranges k b pl) (num : ℕ → ℤ) where
   abbrev numbers : List ℤ
   numbers = map (λ r. num r.equation) pl.rules
 
@@ -447,7 +435,7 @@ module _ (n : ℤ) (m : Model) (a : Annot) (k : ℕ) (b : Block) (ranges : Range
   level p r = ratio (value_squared (charged_purpose pl p.den (left_nums m a p) numbers) r.den (left_nums m a r)) (n *ℤ p.den *ℤ (r.den *ℤ r.den))
 
   party : k < length a.blocks
-  party = slice_get_within a.blocks k b t.at
+  party = slice_get_within a.blocks k b t.there
 
   listed : EachListed m a (block k) (constraints m a (block k))
   listed = constraints_listed m a t.class (block k) party
@@ -456,7 +444,7 @@ module _ (n : ℤ) (m : Model) (a : Annot) (k : ℕ) (b : Block) (ranges : Range
   lagrangian_is u p r f fr def h =
       value_on (lagrangian m a k u p r) (minus (ratio top big) (ratio charged_top small)) (level p r)
       (joined_both (λ x y. Some (minus x y)) fraction_minus (purpose m (slice_get a.blocks k) p r) (Some (ratio top big)) (charge m u r (constraints m a (block k))) (Some (ratio charged_top small))
-      (subst (λ o. SameValue (purpose m o p r) (Some (ratio top big))) (sym t.at) (purpose_of n m a k t.positive t.class t.places t.values b pl.purpose pl.own t.at t.player.purpose t.player.own p r f fr def))
+      (subst (λ o. SameValue (purpose m o p r) (Some (ratio top big))) (sym t.there) (purpose_of n m a k t.positive t.class t.places t.values b pl.purpose pl.own t.there t.player.purpose t.player.own p r f fr def))
       (charge_is n m a k num t.positive t.values p.den u r p.positive fr h (constraints m a (block k)) pl.rules t.player.rules listed))
       (record {
         left = mul_pos big small big_positive (mul_pos p.den (n *ℤ r.den) p.positive (mul_pos n r.den t.positive r.positive));
@@ -489,9 +477,9 @@ module _ (n : ℤ) (m : Model) (a : Annot) (k : ℕ) (b : Block) (ranges : Range
 
   down_here : (u : ℕ → Ratio) (p : Point) → Fits m p → File.AreMultipliers m a k p u → ((e : ℕ) (q : Equation) → slice_get m.equations e ≡ Some q → is_constraint m a (block k) e ≡ true → SameRatio (u e) (ratio (num e) p.den)) → Play.AreMultipliers ranges pl p.den (left_nums m a p) numbers
   down_here u p f h same = record {
-    among = t.deviations.down p p f h.among;
+    among = (deviations n m a ranges k b pl t).down p p f h.among;
     signed = signed_down n m a k num t.positive t.values p u f (λ e q at is. (h.each e q at is, same e q at is)) (constraints m a (block k)) pl.rules t.player.rules listed;
-    least = λ e ys pe dev. least e ys (t.deviations.up p e ys f pe dev);
+    least = λ e ys pe dev. least e ys ((deviations n m a ranges k b pl t).up p e ys f pe dev);
   }
     where
       fractions : Fractions n m a k num t.positive t.values p.den u
@@ -519,7 +507,7 @@ module _ (n : ℤ) (m : Model) (a : Annot) (k : ℕ) (b : Block) (ranges : Range
       least r dev =
           let c = charged_purpose pl p.den (left_nums m a p) numbers in
           let u : ℕ → Ratio = λ e. ratio (num e) p.den in
-          let w : IsAtMost c p.den (left_nums m a p) r.den (left_nums m a r) = h.least r.den (left_nums m a r) r.positive (t.deviations.down p r f dev) in
+          let w : IsAtMost c p.den (left_nums m a p) r.den (left_nums m a r) = h.least r.den (left_nums m a r) r.positive ((deviations n m a ranges k b pl t).down p r f dev) in
           if_both AtMostRatio at_most_same (Some (level p p)) (lagrangian m a k u p p) (Some (level p r)) (lagrangian m a k u p r)
           (value_back (lagrangian m a k u p p) (level p p) (lagrangian_is u p p f f d.definition fractions))
           (value_back (lagrangian m a k u p r) (level p r) (lagrangian_is u p r f dev.fits dev.definition fractions))

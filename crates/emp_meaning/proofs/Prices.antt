@@ -41,9 +41,10 @@ use Rattle.emp_problem.specs.Left.{left, place}
 use Rattle.emp_problem.specs.GameOf.{AreRulesOf, IsPlayerOf, ArePlayersOf, IsGameOf}
 use Rattle.emp_problem.specs.Class.{IsClassFile}
 use Rattle.emp_meaning.specs.Laws.{left_nums}
-use Rattle.emp_meaning.specs.Ties.{Places, Values, Deviations}
+use Rattle.emp_meaning.specs.Ties.{Places, Owners, Values}
 use Rattle.emp_meaning.proofs.PriceLists.{decided, any_here, all_here, there_is, Listed, EachListed, constraints_listed, constraint_named, named_listed}
-use Rattle.emp_meaning.proofs.Multipliers.{left_cell, IsTied, multipliers_down, multipliers_up}
+use Rattle.emp_meaning.proofs.Move.{IsTied, placed_cell}
+use Rattle.emp_meaning.proofs.Multipliers.{multipliers_down, multipliers_up}
 
 -- ---- one denominator
 -- times is a multiple of each f below n
@@ -262,7 +263,7 @@ pub record AreTied (n : ℤ) (m : Model) (a : Annot) (g : Game) : Type 0 where
   pub game : IsGameOf n m a g
   pub places : Places m a
   pub values : Values n m a
-  pub deviations : (k : ℕ) (b : Block) (pl : Player) → slice_get a.blocks k ≡ Some b → IsPlayerOf n m a k b pl → Deviations m a g.ranges k pl
+  pub owners : (k : ℕ) (b : Block) (pl : Player) → slice_get a.blocks k ≡ Some b → IsPlayerOf n m a k b pl → Owners m a k pl
 
 -- prices of the game
 pub record Priced (m : Model) (a : Annot) (g : Game) (p : Point) : Type 0 where
@@ -271,8 +272,8 @@ pub record Priced (m : Model) (a : Annot) (g : Game) (p : Point) : Type 0 where
   pub prices : ArePrices g p.den (left_nums m a p) times number
 
 module _ (n : ℤ) (m : Model) (a : Annot) (g : Game) (t : AreTied n m a g) where
-  pub tied : (k : ℕ) (b : Block) (pl : Player) → slice_get a.blocks k ≡ Some b → IsPlayerOf n m a k b pl → IsTied n m a k b g.ranges pl
-  tied k b pl at is = record { positive = t.game.positive; class = t.class; at = at; places = t.places; values = t.values; deviations = t.deviations k b pl at is; player = is }
+  pub tied : (k : ℕ) (b : Block) (pl : Player) → slice_get a.blocks k ≡ Some b → IsPlayerOf n m a k b pl → IsTied n m a g.ranges k b pl
+  tied k b pl at is = record { positive = t.game.positive; class = t.class; places = t.places; owners = t.owners k b pl at is; ends = t.game.ranges; values = t.values; there = at; player = is }
 
   pub each_player : (P : ℕ → Player → Type 0) → ((k : ℕ) (b : Block) (pl : Player) → slice_get a.blocks k ≡ Some b → IsPlayerOf n m a k b pl → P k pl) → EachPlayer P 0 g.players
   each_player P f = each_of n m a P 0 a.blocks g.players (λ i k e. let s : k ≡ i = omega arith in ap (slice_get a.blocks) s) t.game.players f
@@ -333,7 +334,7 @@ module _ (n : ℤ) (m : Model) (a : Annot) (g : Game) (t : AreTied n m a g) wher
     down_multipliers k b pl at is w =
         let l = slice_get_within a.blocks k b at in
         let v = sym (priced_same k b pl is) ∙ w in
-        multipliers_down n m a k b g.ranges pl (tied k b pl at is) (whole.number k) whole.times (u k) p whole.positive f (h.multipliers k l v) (λ e q there constraint. matched k e l v constraint)
+        multipliers_down n m a g.ranges k b pl (tied k b pl at is) (whole.number k) whole.times (u k) p whole.positive f (h.multipliers k l v) (λ e q there constraint. matched k e l v constraint)
 
     down_duals : (k : ℕ) (b : Block) (pl : Player) → slice_get a.blocks k ≡ Some b → IsPlayerOf n m a k b pl → (e c : ℕ) → has_rule pl.rules e ≡ true → dual_of g.duals e ≡ Some c → whole.number k e ≡ whole.times *ℤ cell (left_nums m a p) c
     down_duals k b pl at is e c r d = go (dual_found m a a.duals e c (ap (λ (ds : List (ℕ × ℕ)). dual_of ds e) (sym t.game.duals) ∙ d))
@@ -347,7 +348,7 @@ module _ (n : ℤ) (m : Model) (a : Annot) (g : Game) (t : AreTied n m a g) wher
             let has_one : has_dual a e ≡ true = any_here (λ y. nat_eq y.1.at e) a.duals x.index x.pair x.at (ap (λ i. nat_eq i e) x.equation ∙ eqb_refl e) in
             let w = priced_by k e constraint (or_first (has_dual a e) (names_equation a.visols e) has_one) in
             let below = (all_here (λ y. (y.0.at < length m.variables) × (y.1.at < length m.equations)) a.duals x.index x.pair x.at t.class.fits.duals).0 in
-            let there : cell (left_nums m a p) c ≡ cell p.nums v = ap (cell (left_nums m a p)) x.coordinate ∙ left_cell m a t.places v p below (dual_left m a v is_one) in
+            let there : cell (left_nums m a p) c ≡ cell p.nums v = ap (cell (left_nums m a p)) x.coordinate ∙ placed_cell m a p v t.places below (dual_left m a v is_one) in
             let same : (u k e).top *ℤ p.den ≡ cell p.nums v *ℤ (u k e).bottom = subst (λ i. SameRatio (u k i) (coordinate p v)) x.equation (h.duals k x.index x.pair l x.at (ap (is_constraint m a (block k)) x.equation ∙ constraint)) in
             let number : (u k e).top *ℤ (whole.times *ℤ p.den) ≡ whole.number k e *ℤ (u k e).bottom = matched k e l w constraint in
             cancel_right (whole.number k e) (whole.times *ℤ cell (left_nums m a p) c) (u k e).bottom
@@ -417,7 +418,7 @@ module _ (n : ℤ) (m : Model) (a : Annot) (g : Game) (t : AreTied n m a g) wher
         go : (b : Block) × (slice_get a.blocks k ≡ Some b) → File.AreMultipliers m a k p (price k)
         go b =
             let x = player_of (λ j pl. Split.is_priced g pl.rules ≡ true → Play.AreMultipliers g.ranges pl (times *ℤ p.den) (scale times (left_nums m a p)) (map (λ r. number j r.equation) pl.rules)) h.multipliers k b.0 b.1 in
-            multipliers_up n m a k b.0 g.ranges x.player (tied k b.0 x.player b.1 x.is) (number k) times p h.positive f (d k l) (x.holds (priced_same k b.0 x.player x.is ∙ w))
+            multipliers_up n m a g.ranges k b.0 x.player (tied k b.0 x.player b.1 x.is) (number k) times p h.positive f (d k l) (x.holds (priced_same k b.0 x.player x.is ∙ w))
 
     up_duals : (k i : ℕ) (c : VarId × EquId) → k < length a.blocks → slice_get a.duals i ≡ Some c → is_constraint m a (block k) c.1.at ≡ true → SameRatio (price k c.1.at) (coordinate p c.0.at)
     up_duals k i c l at is = go (there_is a.blocks k l)
@@ -428,7 +429,7 @@ module _ (n : ℤ) (m : Model) (a : Annot) (g : Game) (t : AreTied n m a g) wher
             let below = all_here (λ y. (y.0.at < length m.variables) × (y.1.at < length m.equations)) a.duals i c at t.class.fits.duals in
             let is_one : is_dual a c.0.at ≡ true = any_here (λ y. nat_eq y.0.at c.0.at) a.duals i c at (eqb_refl c.0.at) in
             let found : dual_of g.duals c.1.at ≡ Some (place m a c.0.at) = ap (λ (ds : List (ℕ × ℕ)). dual_of ds c.1.at) t.game.duals ∙ dual_is m a a.duals c.1.at i c (one_dual c.1.at below.1) at (eqb_refl c.1.at) in
-            let there : number k c.1.at ≡ times *ℤ cell p.nums c.0.at = x.holds c.1.at (place m a c.0.at) (constraint_rule k b.0 x.player x.is c.1.at is) found ∙ ap (λ z. times *ℤ z) (left_cell m a t.places c.0.at p below.0 (dual_left m a c.0.at is_one)) in
+            let there : number k c.1.at ≡ times *ℤ cell p.nums c.0.at = x.holds c.1.at (place m a c.0.at) (constraint_rule k b.0 x.player x.is c.1.at is) found ∙ ap (λ z. times *ℤ z) (placed_cell m a p c.0.at t.places below.0 (dual_left m a c.0.at is_one)) in
             ap (λ z. z *ℤ p.den) there ∙ by_ring (times ∷ cell p.nums c.0.at ∷ p.den ∷ []) (var 0 ⊗ var 1 ⊗ var 2) (var 1 ⊗ (var 0 ⊗ var 2)) refl
 
     held : (k e : ℕ) → k < length a.blocks → names_equation a.visols e ≡ true → is_constraint m a (block k) e ≡ true → number k e ≡ number (first_with 0 g.players e) e
