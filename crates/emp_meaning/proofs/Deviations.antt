@@ -202,7 +202,7 @@ module _ (n : ℤ) (m : Model) (a : Annot) (ranges : Ranges) (k : ℕ) (b : Bloc
 
       within : (v : ℕ) (x : Variable) → slice_get m.variables v ≡ Some x → owns m a (block k) v ≡ true → (is_defined m a v ≡ true) ⊎ (is_defined m a v ≡ false) → MeetsBounds r v x
       within v x at own (inl is) =
-          defined_unbound m a k v x (coordinate r v) (tied.places.own (block k) v (slice_get_within a.blocks k b tied.there) (slice_get_within m.variables v x at) own is) at
+          defined_unbound m a (block k) v x (coordinate r v) (tied.places.own (block k) v (slice_get_within a.blocks k b tied.there) (slice_get_within m.variables v x at) own is) at
       within v x at own (inr is) =
           let i = place m a v in
           let l = slice_get_within m.variables v x at in

@@ -4,3 +4,4 @@ pub mod Deviations
 pub mod PriceLists
 pub mod Multipliers
 pub mod Prices
+pub mod Leading

@@ -104,15 +104,15 @@ open_below Open y h = tt
 open_below (At f) y h = absurd (false≢true h)
 
 -- a defined objective has no bound
-pub defined_unbound : (m : Model) (a : Annot) (k v : ℕ) (x : Variable) (y : Ratio) → is_defined_of m a (block k) v ≡ true → slice_get m.variables v ≡ Some x → IsAbove y x.low × IsBelow y x.high
-defined_unbound m a k v x y h at = go (objective m a (block k)) refl h
+pub defined_unbound : (m : Model) (a : Annot) (k : Party) (v : ℕ) (x : Variable) (y : Ratio) → is_defined_of m a k v ≡ true → slice_get m.variables v ≡ Some x → IsAbove y x.low × IsBelow y x.high
+defined_unbound m a k v x y h at = go (objective m a k) refl h
   where
-    go : (o : Option (Sense × ℕ)) → objective m a (block k) ≡ o → is_defined_by m a (block k) v o ≡ true → IsAbove y x.low × IsBelow y x.high
+    go : (o : Option (Sense × ℕ)) → objective m a k ≡ o → is_defined_by m a k v o ≡ true → IsAbove y x.low × IsBelow y x.high
     go (Some w) is h =
-        let parts = and_parts (nat_eq w.1 v) (list_any (λ e. defines m a (block k) e.at) (equations m a (block k))) h in
-        let some = some_passes (λ e. defines m a (block k) e) (equations m a (block k)) parts.1 in
-        let by : (can_define m a some.0 w.1 && has_alone m a (block k) some.0) ≡ true = subst (λ o. defines_by m a (block k) some.0 o ≡ true) is some.1 in
-        let can = (and_parts (can_define m a some.0 w.1) (has_alone m a (block k) some.0) by).0 in
+        let parts = and_parts (nat_eq w.1 v) (list_any (λ e. defines m a k e.at) (equations m a k)) h in
+        let some = some_passes (λ e. defines m a k e) (equations m a k) parts.1 in
+        let by : (can_define m a some.0 w.1 && has_alone m a k some.0) ≡ true = subst (λ o. defines_by m a k some.0 o ≡ true) is some.1 in
+        let can = (and_parts (can_define m a some.0 w.1) (has_alone m a k some.0) by).0 in
         let free = has_no_bound (slice_get m.variables w.1) in
         let b1 = free && not (is_dual a w.1) in
         let b2 = nat_eq (occurrences w.1 m.equations) 1 in

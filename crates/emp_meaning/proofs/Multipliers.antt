@@ -215,7 +215,7 @@ module _ (n : ℤ) (m : Model) (a : Annot) (pn : pos 0 <ℤ n) where
       go : slice_index_or r.cells i d ≡ cell r.cells i → cell r.cells i *ℤ pos 1 ≡ n *ℤ pos 0 → slice_index_or r.cells i d ≡ pos 0
       go e f = e ∙ (by_ring (cell r.cells i ∷ []) (var 0) (var 0 ⊗ lit (pos 1)) refl ∙ (f ∙ *ℤ-zero n))
 
-  nothing_value : (r : Row) (d : ℤ) (xs : List ℤ) → IsRowOf n (left m a) (form_of (pos 0) (pos 1)) r → value_at r d xs ≡ pos 0
+  pub nothing_value : (r : Row) (d : ℤ) (xs : List ℤ) → IsRowOf n (left m a) (form_of (pos 0) (pos 1)) r → value_at r d xs ≡ pos 0
   nothing_value r d xs h =
       ap₂ (λ s t. s *ℤ d +ℤ t) (by_ring (r.constant ∷ []) (var 0) (var 0 ⊗ lit (pos 1)) refl ∙ (h.constant ∙ *ℤ-zero n)) (dot-zeros r.cells xs (nothing_cells r h)) ∙ by_ring (d ∷ []) (lit (pos 0) ⊗ var 0 ⊕ lit (pos 0)) (lit (pos 0)) refl
 
