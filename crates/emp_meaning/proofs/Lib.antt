@@ -5,3 +5,4 @@ pub mod PriceLists
 pub mod Multipliers
 pub mod Prices
 pub mod Leading
+pub mod Assembly

@@ -1,0 +1,96 @@
+-- What solves a file solves its game, and the other way.
+use Rattle.std.proofs.Common.{◌≡◌, ◌↔◌, ℕ, ◌<◌, ℤ, ◌*ℤ◌, Bool, true, false, length, Option, Some, None, refl, sym, ap, subst, ◌∙◌}
+use Rattle.std.specs.Prelude.{slice_get}
+use Rattle.std.proofs.lemmas.Bool.{false≢true}
+use Rattle.std.proofs.lemmas.Option.{slice_get_within}
+use Rattle.emp_num.specs.Ratio.{Ratio, ratio}
+use Rattle.emp_num.specs.Point.{Point}
+use Rattle.emp_ast.specs.declared.model.Model.{Model}
+use Rattle.emp_ast.specs.declared.annot.Block.{Block}
+use Rattle.emp_ast.specs.declared.annot.Annot.{Annot}
+use Rattle.emp_ast.specs.Meets.{MeetsEquation}
+use Rattle.emp_ast.specs.Parties.{block, EachDefinition}
+use Rattle.emp_ast.specs.Rivals.{Fits}
+use Rattle.emp_ast.specs.Solved.{IsSolved}
+use Rattle.emp_ast.specs.Equilibrium.{IsEquilibrium}
+use Rattle.emp_ast.specs.Bilevel.{IsBetterForLeader}
+use Rattle.emp_ast.specs.Bilevel as File
+use Rattle.emp_game.specs.Game.{Player}
+use Rattle.emp_game.specs.Solved as Play
+use Rattle.emp_split.specs.Games.{Leader, Game, coordinates, EachPlayer}
+use Rattle.emp_split.specs.Meaning.{LeaderObeys, IsAdmissible, IsBetter}
+use Rattle.emp_problem.specs.GameOf.{IsPlayerOf, IsGameOf}
+use Rattle.emp_problem.specs.Class.{IsClassFile, SolvesBy, SolvesFile, MeetsDefinitions}
+use Rattle.emp_meaning.specs.Laws.{left_nums}
+use Rattle.emp_meaning.proofs.Move.{left_count, range_count}
+use Rattle.emp_meaning.proofs.PriceLists.{there_is}
+use Rattle.emp_meaning.proofs.Prices.{AreTied, Priced, each_player, player_of, prices_down, prices_up}
+use Rattle.emp_meaning.proofs.Leading.{Led, led, not_led, leads_down, leads_up, better_same}
+
+-- a block is solved exactly where its player is
+abbrev pub SolvedAlike : ℤ → Model → Annot → Game → Type 0
+SolvedAlike n m a g = (k : ℕ) (b : Block) (pl : Player) → slice_get a.blocks k ≡ Some b → IsPlayerOf n m a k b pl → (p : Point) → Fits m p → (IsSolved m a k p → Play.IsSolved g.ranges pl p.den (left_nums m a p)) × (EachDefinition m a (block k) (λ e q. MeetsEquation p q) → Play.IsSolved g.ranges pl p.den (left_nums m a p) → IsSolved m a k p)
+
+module _ (n : ℤ) (m : Model) (a : Annot) (g : Game) (t : AreTied n m a g) (alike : SolvedAlike n m a g) where
+  -- ---- equilibria
+  abbrev PlayerSolved : Point → ℕ → Player → Type 0
+  PlayerSolved p k pl = Play.IsSolved g.ranges pl p.den (left_nums m a p)
+
+  count_is : (p : Point) → length (left_nums m a p) ≡ coordinates g
+  count_is p = left_count m a p ∙ sym (range_count m a g.ranges t.game.ranges)
+
+  equilibrium_down : (p : Point) → IsEquilibrium m a p → LeaderObeys g g.leader p.den (left_nums m a p) → IsAdmissible g p.den (left_nums m a p)
+  equilibrium_down p h leads =
+      let priced = prices_down n m a g t p h.choice h.fits h.prices in
+      record {
+        count = count_is p;
+        leads = leads;
+        solved = each_player n m a g t (PlayerSolved p) (λ k b pl at is. (alike k b pl at is p h.fits).0 (h.solved k (slice_get_within a.blocks k b at)));
+        times = priced.times;
+        number = priced.number;
+        prices = priced.prices;
+      }
+
+  solved_up : (p : Point) → Fits m p → MeetsDefinitions m a p → EachPlayer (PlayerSolved p) 0 g.players → (k : ℕ) → k < length a.blocks → IsSolved m a k p
+  solved_up p f def h k l = go (there_is a.blocks k l)
+    where
+      go : (b : Block) × (slice_get a.blocks k ≡ Some b) → IsSolved m a k p
+      go b = let x = player_of n m a g t (PlayerSolved p) h k b.0 b.1 in (alike k b.0 x.player b.1 x.is p f).1 (def.blocks k l) x.holds
+
+  equilibrium_up : (p : Point) → Fits m p → MeetsDefinitions m a p → IsAdmissible g p.den (left_nums m a p) → IsEquilibrium m a p
+  equilibrium_up p f def h = record {
+    fits = f;
+    solved = solved_up p f def h.solved;
+    choice = λ k e. ratio (h.number k e) (h.times *ℤ p.den);
+    prices = prices_up n m a g t p h.times h.number f h.prices (λ k l. (solved_up p f def h.solved k l).feasible.deviation);
+  }
+
+  -- ---- files
+  pub file_solves : (p : Point) → SolvesFile m a p → MeetsDefinitions m a p × IsAdmissible g p.den (left_nums m a p)
+  file_solves p h = go a.bilevel refl h
+    where
+      go : (b : Bool) → a.bilevel ≡ b → SolvesBy b m a p → MeetsDefinitions m a p × IsAdmissible g p.den (left_nums m a p)
+      go false s e = (
+        record { blocks = λ k l. (e.solved k l).feasible.deviation.definition; leads = λ w. absurd (false≢true (sym s ∙ w)) },
+        equilibrium_down p e (subst (λ o. LeaderObeys g o p.den (left_nums m a p)) (sym (not_led n m a g s t.game.leads)) tt),
+      )
+      go true s e =
+          let x = led n m a g s t.game.leads in (
+            record { blocks = λ k l. (e.follows.solved k l).feasible.deviation.definition; leads = λ w. e.leads.deviation.definition },
+            equilibrium_down p e.follows (subst (λ o. LeaderObeys g o p.den (left_nums m a p)) (sym x.at) (leads_down n m a g t s x.led x.is p e.follows.fits e.leads)),
+          )
+
+  pub game_solves : (p : Point) → Fits m p → MeetsDefinitions m a p → IsAdmissible g p.den (left_nums m a p) → SolvesFile m a p
+  game_solves p f def h = go a.bilevel refl
+    where
+      go : (b : Bool) → a.bilevel ≡ b → SolvesBy b m a p
+      go false s = equilibrium_up p f def h
+      go true s =
+          let x = led n m a g s t.game.leads in
+          record { leads = leads_up n m a g t s x.led x.is p f (def.leads s) (subst (λ o. LeaderObeys g o p.den (left_nums m a p)) x.at h.leads); follows = equilibrium_up p f def h }
+
+-- in a bilevel file the leader's order is that of the game
+pub orders_are_one : (n : ℤ) (m : Model) (a : Annot) (g : Game) → AreTied n m a g → a.bilevel ≡ true → (p q : Point) → Fits m p → Fits m q → MeetsDefinitions m a p → MeetsDefinitions m a q → IsBetter g.leader p.den (left_nums m a p) q.den (left_nums m a q) ↔ IsBetterForLeader m a p q
+orders_are_one n m a g t s p q f fq def defq =
+    let x = led n m a g s t.game.leads in
+    subst (λ o. IsBetter o p.den (left_nums m a p) q.den (left_nums m a q) ↔ IsBetterForLeader m a p q) (sym x.at) (better_same n m a g t s x.led x.is p q f fq (def.leads s) (defq.leads s))
