@@ -42,7 +42,7 @@ use Rattle.emp_problem.specs.Class.{BlockFits, IsClassFile}
 use Rattle.emp_meaning.specs.Laws.{left_nums}
 use Rattle.emp_meaning.specs.Ties.{left_at, signed_ratio, Values, Deviates, Deviations}
 use Rattle.emp_meaning.proofs.MovePoints.{HasCoordinates, with_coordinates}
-use Rattle.emp_meaning.proofs.Move.{IsTied, left_count, left_cell, left_past, placed_cell, range_count, range_is, defines_own, defined_among, defined_unbound}
+use Rattle.emp_meaning.proofs.Move.{IsTied, block_fits, scaled_same, left_count, left_cell, left_past, placed_cell, range_count, range_is, defines_own, defined_among, defined_unbound}
 
 -- ---- equal fractions in one range
 range_same : (r : End × End) (x y : Ratio) → SameFraction x y → InRange r x → InRange r y
@@ -55,13 +55,19 @@ range_same (At f, At g) x y h w = (
 )
 
 -- ---- the value of a defined objective, by the coordinates that are left
-signed_above : (s : Sense) (x : Ratio) → pos 0 <ℤ x.bottom → pos 0 <ℤ (signed_ratio s x).bottom
+pub signed_above : (s : Sense) (x : Ratio) → pos 0 <ℤ x.bottom → pos 0 <ℤ (signed_ratio s x).bottom
 signed_above Min x h = h
 signed_above Max x h = h
 
 signed_turned : (s : Sense) (x y : Ratio) → SameRatio x (signed_ratio s y) → SameRatio (signed_ratio s x) y
 signed_turned Min x y h = h
 signed_turned Max x y h = neg_ℤ-*ℤ x.top y.bottom ∙ (ap neg_ℤ h ∙ by_ring (y.top ∷ x.bottom ∷ []) (neg (neg (var 0) ⊗ var 1)) (var 0 ⊗ var 1) refl)
+
+-- two points that are the same have one value
+pub value_level : (n : ℤ) (q : Quadratic) (d : ℤ) (xs : List ℤ) (e : ℤ) (ys : List ℤ) → AreSame d xs e ys → SameRatio (ratio (value_squared q d xs) (n *ℤ (d *ℤ d))) (ratio (value_squared q e ys) (n *ℤ (e *ℤ e)))
+value_level n q d xs e ys same =
+    by_ring (value_squared q d xs ∷ n ∷ (e *ℤ e) ∷ []) (var 0 ⊗ (var 1 ⊗ var 2)) (var 1 ⊗ (var 0 ⊗ var 2)) refl
+    ∙ (ap (λ z. n *ℤ z) (quadratic_same q d xs e ys same) ∙ by_ring (value_squared q e ys ∷ n ∷ (d *ℤ d) ∷ []) (var 1 ⊗ (var 0 ⊗ var 2)) (var 0 ⊗ (var 1 ⊗ var 2)) refl)
 
 abbrev pub given_at : ℤ → Block → Purpose → ℤ → List ℤ → Ratio
 given_at n (Agent s w vars equs) (goal q) e ys = signed_ratio s (ratio (value_squared q e ys) (n *ℤ (e *ℤ e)))
@@ -97,6 +103,15 @@ module _ (n : ℤ) (m : Model) (a : Annot) (ranges : Ranges) (k : ℕ) (b : Bloc
       agrees i other (inr l) =
           ap (λ z. z *ℤ p.den) (left_past m a r i l) ∙ (zero-*ℤ p.den ∙ (sym (zero-*ℤ r.den) ∙ ap (λ z. z *ℤ r.den) (sym (left_past m a p i l))))
 
+  -- an own coordinate in the range of the game is in that of its variable
+  in_range : (e : ℤ) (ys : List ℤ) (v : ℕ) (x : Variable) → slice_get m.variables v ≡ Some x → owns m a (block k) v ≡ true → is_defined m a v ≡ false → ((i : ℕ) → TheGame.owns pl i ≡ true → InRange (range_at ranges i) (ratio (cell ys i) e)) → InRange (x.low, x.high) (ratio (cell ys (place m a v)) e)
+  in_range e ys v x at own is within =
+      let i = place m a v in
+      let stands = tied.places.placed v (slice_get_within m.variables v x at) is in
+      let mine : TheGame.owns pl i ≡ true = tied.owners.owns i stands.0 ∙ (ap (λ u. owns m a (block k) u) stands.1 ∙ own) in
+      let range : range_at ranges i ≡ (x.low, x.high) = range_is m a ranges i tied.ends stands.0 ∙ (ap (λ u. range_of m u) stands.1 ∙ ap (λ y. (y.low, y.high)) (get_or_from_slice_get m.variables v x no_variable at)) in
+      subst (λ z. InRange z (ratio (cell ys i) e)) range (within i mine)
+
   -- the coordinates of the file's deviation
   abbrev moves_to : Point → ℤ → List ℤ → ℕ → Ratio
   moves_to p e ys v = cond (is_defined m a v) (cond (owns m a (block k) v) (given_at n b pl.purpose e ys) (coordinate p v)) (ratio (cell ys (place m a v)) e)
@@ -126,18 +141,14 @@ module _ (n : ℤ) (m : Model) (a : Annot) (ranges : Ranges) (k : ℕ) (b : Bloc
       let is : objective m a (block k) ≡ Some (s, w.at) = ap block_objective at in
       let l = slice_get_within a.blocks k (Agent s w vars equs) at in
       let mine = defines_own m a k (s, w.at) j is defined in
-      let fit : BlockFits (length m.variables) (length m.equations) (Agent s w vars equs) =
-      subst (λ x. BlockFits (length m.variables) (length m.equations) x) (get_or_from_slice_get a.blocks k (Agent s w vars equs) (Agent s w vars equs) at) (All-get_or (BlockFits (length m.variables) (length m.equations)) a.blocks k (Agent s w vars equs) l tied.class.fits.blocks) in
+      let fit = block_fits m a k (Agent s w vars equs) tied.class at in
       let own : owns m a (block k) w.at ≡ true = ap (λ x. block_owns x w.at) at ∙ or_left (nat_eq w.at w.at) (names_variable vars w.at) (eq-eqb w.at w.at refl) in
       let value = value_squared q e ys in
       let there_value = value_squared q r.den (left_nums m a r) in
       let x = signed_ratio s (coordinate r w.at) in
       let turned = signed_turned s (coordinate r w.at) (ratio value (n *ℤ (e *ℤ e))) (given w.at fit.0 (defined_among m a w.at k l mine) own) in
-      let level : value *ℤ (n *ℤ (r.den *ℤ r.den)) ≡ there_value *ℤ (n *ℤ (e *ℤ e)) =
-      by_ring (value ∷ n ∷ (r.den *ℤ r.den) ∷ []) (var 0 ⊗ (var 1 ⊗ var 2)) (var 1 ⊗ (var 0 ⊗ var 2)) refl
-      ∙ (ap (λ z. n *ℤ z) (quadratic_same q e ys r.den (left_nums m a r) same) ∙ by_ring (there_value ∷ n ∷ (e *ℤ e) ∷ []) (var 1 ⊗ (var 0 ⊗ var 2)) (var 0 ⊗ (var 1 ⊗ var 2)) refl) in
       (tied.values.given (block k) s w.at q r l is of fits).1
-      (cross_on x.top x.bottom value (n *ℤ (e *ℤ e)) there_value (n *ℤ (r.den *ℤ r.den)) (mul_pos n (e *ℤ e) tied.positive (mul_pos e e above above)) turned level)
+      (cross_on x.top x.bottom value (n *ℤ (e *ℤ e)) there_value (n *ℤ (r.den *ℤ r.den)) (mul_pos n (e *ℤ e) tied.positive (mul_pos e e above above)) turned (value_level n q e ys r.den (left_nums m a r) same))
       j c there defined
   meets_definition (Agent s w vars equs) (flow fs) r e ys at of fits above same given = absurd of
   meets_definition (Vi zeros pairs equs) f r e ys at of fits above same given = λ j c there defined.
@@ -162,12 +173,6 @@ module _ (n : ℤ) (m : Model) (a : Annot) (ranges : Ranges) (k : ℕ) (b : Bloc
       ext_get_or (pos 0) (left_nums m a c.point) (scale c.times ys) (left_count m a c.point ∙ (sym count ∙ sym (length-scale c.times ys)))
       (λ i l. moved_cell p e ys c i above (let s = left_count m a c.point in omega arith) ∙ sym (cell-scale c.times ys i))
 
-  moved_same : (p : Point) (e : ℤ) (ys : List ℤ) (c : Moved p e ys) → left_nums m a c.point ≡ scale c.times ys → AreSame e ys c.point.den (left_nums m a c.point)
-  moved_same p e ys c is i =
-      ap (λ z. cell ys i *ℤ z) c.den
-      ∙ (by_ring (cell ys i ∷ c.times ∷ e ∷ []) (var 0 ⊗ (var 1 ⊗ var 2)) (var 1 ⊗ var 0 ⊗ var 2) refl
-      ∙ ap (λ z. z *ℤ e) (sym (ap (λ zs. cell zs i) is ∙ cell-scale c.times ys i)))
-
   up : (p : Point) (e : ℤ) (ys : List ℤ) → Fits m p → pos 0 <ℤ e → Play.IsDeviation ranges pl p.den (left_nums m a p) e ys → Deviates m a k p e ys
   up p e ys fits above d = record {
     point = r;
@@ -175,7 +180,7 @@ module _ (n : ℤ) (m : Model) (a : Annot) (ranges : Ranges) (k : ℕ) (b : Bloc
       fits = c.count;
       others = λ v l other. agrees v l other (cases_Bool (is_defined m a v));
       bounds = λ v x at own. within v x at own (cases_Bool (is_defined m a v));
-      definition = meets_definition b pl.purpose r e ys tied.there tied.player.purpose c.count above (moved_same p e ys c nums) (λ v l is own. subst (λ x. SameRatio (coordinate r v) x) (moves_own p e ys v is own) (c.each v l));
+      definition = meets_definition b pl.purpose r e ys tied.there tied.player.purpose c.count above (scaled_same c.times e ys r.den (left_nums m a r) c.den nums) (λ v l is own. subst (λ x. SameRatio (coordinate r v) x) (moves_own p e ys v is own) (c.each v l));
     };
     times = c.times;
     positive = c.positive;
@@ -206,11 +211,18 @@ module _ (n : ℤ) (m : Model) (a : Annot) (ranges : Ranges) (k : ℕ) (b : Bloc
       within v x at own (inr is) =
           let i = place m a v in
           let l = slice_get_within m.variables v x at in
-          let stands = tied.places.placed v l is in
-          let mine : TheGame.owns pl i ≡ true = tied.owners.owns i stands.0 ∙ (ap (λ u. owns m a (block k) u) stands.1 ∙ own) in
-          let range : range_at ranges i ≡ (x.low, x.high) = range_is m a ranges i tied.ends stands.0 ∙ (ap (λ u. range_of m u) stands.1 ∙ ap (λ y. (y.low, y.high)) (get_or_from_slice_get m.variables v x no_variable at)) in
           range_same (x.low, x.high) (ratio (cell ys i) e) (coordinate r v) (record { left = above; right = r.positive; same = sym (moved_left p e ys c v l is) })
-          (subst (λ z. InRange z (ratio (cell ys i) e)) range (d.within i mine))
+          (in_range e ys v x at own is d.within)
+
+  -- a point that meets the definition is a deviation of itself where its coordinates are
+  pub itself_up : (p : Point) → Fits m p → EachDefinition m a (block k) (λ e q. MeetsEquation p q) → Play.IsDeviation ranges pl p.den (left_nums m a p) p.den (left_nums m a p) → IsDeviation m a (block k) p p
+  itself_up p fits definition d = record { fits = fits; others = λ v l other. refl; bounds = λ v x at own. within v x at own (cases_Bool (is_defined m a v)); definition = definition }
+    where
+      within : (v : ℕ) (x : Variable) → slice_get m.variables v ≡ Some x → owns m a (block k) v ≡ true → (is_defined m a v ≡ true) ⊎ (is_defined m a v ≡ false) → MeetsBounds p v x
+      within v x at own (inl is) =
+          defined_unbound m a (block k) v x (coordinate p v) (tied.places.own (block k) v (slice_get_within a.blocks k b tied.there) (slice_get_within m.variables v x at) own is) at
+      within v x at own (inr is) =
+          subst (λ z. InRange (x.low, x.high) (ratio z p.den)) (placed_cell m a p v tied.places (slice_get_within m.variables v x at) is) (in_range p.den (left_nums m a p) v x at own is d.within)
 
   pub deviations : Deviations m a ranges k pl
   deviations = record { down = down; up = up }

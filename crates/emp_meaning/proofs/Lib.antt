@@ -2,6 +2,8 @@ pub mod MovePoints
 pub mod Move
 pub mod Deviations
 pub mod PriceLists
+pub mod MoveRules
+pub mod Solved
 pub mod Multipliers
 pub mod Prices
 pub mod Leading

@@ -4,8 +4,12 @@ use Rattle.std.specs.Prelude.{slice_get, ◌&&◌}
 use Rattle.std.specs.List.{list_any}
 use Rattle.std.proofs.lemmas.Bool.{eq-eqb, eqb-true, and_parts, or_cases, or_left, or_right, false≢true, cases_lt}
 use Rattle.std.proofs.lemmas.List.{get_or-map, get_or_past, length-map}
-use Rattle.std.proofs.lemmas.Option.{slice_get_within}
-use Rattle.emp_algebra.specs.Vector.{cell}
+use Rattle.std.proofs.lemmas.Option.{slice_get_within, get_or_from_slice_get}
+use Rattle.std.proofs.lemmas.List.Elements.{All-get_or}
+use Rattle.emp_algebra.specs.Vector.{cell, scale}
+use Rattle.emp_algebra.proofs.Ring.{var, ◌⊗◌, by_ring}
+use Rattle.emp_algebra.proofs.Vectors.{cell-scale}
+use Rattle.emp_systems.specs.Same.{AreSame}
 use Rattle.emp_num.specs.Ratio.{Ratio}
 use Rattle.emp_num.specs.Point.{Point}
 use Rattle.emp_ast.specs.declared.tree.EquId.{EquId}
@@ -23,7 +27,7 @@ use Rattle.emp_game.specs.Game.{Player, Ranges, range_at}
 use Rattle.emp_left.specs.Left.{selected}
 use Rattle.emp_problem.specs.Left.{left, place, range_of}
 use Rattle.emp_problem.specs.GameOf.{IsPlayerOf}
-use Rattle.emp_problem.specs.Class.{IsClassFile}
+use Rattle.emp_problem.specs.Class.{BlockFits, IsClassFile}
 use Rattle.emp_meaning.specs.Laws.{left_nums}
 use Rattle.emp_meaning.specs.Ties.{left_at, Places, Owners, Values}
 
@@ -38,6 +42,11 @@ pub record IsTied (n : ℤ) (m : Model) (a : Annot) (ranges : Ranges) (k : ℕ) 
   pub there : slice_get a.blocks k ≡ Some b
   pub player : IsPlayerOf n m a k b pl
 
+-- the numbers that the block names are those of the model
+pub block_fits : (m : Model) (a : Annot) (k : ℕ) (b : Block) → IsClassFile m a → slice_get a.blocks k ≡ Some b → BlockFits (length m.variables) (length m.equations) b
+block_fits m a k b class at =
+    subst (λ x. BlockFits (length m.variables) (length m.equations) x) (get_or_from_slice_get a.blocks k b b at) (All-get_or (BlockFits (length m.variables) (length m.equations)) a.blocks k b (slice_get_within a.blocks k b at) class.fits.blocks)
+
 -- ---- coordinates
 pub left_count : (m : Model) (a : Annot) (p : Point) → length (left_nums m a p) ≡ length (left m a)
 left_count m a p = length-map (left m a) (λ v. cell p.nums v)
@@ -51,6 +60,13 @@ left_past m a p i h = get_or_past (left_nums m a p) i (pos 0) (let l = left_coun
 pub placed_cell : (m : Model) (a : Annot) (p : Point) (v : ℕ) → Places m a → v < length m.variables → is_defined m a v ≡ false → cell (left_nums m a p) (place m a v) ≡ cell p.nums v
 placed_cell m a p v places within free = let at = places.placed v within free in left_cell m a p (place m a v) at.0 ∙ ap (λ u. cell p.nums u) at.1
 
+-- larger numbers in the same proportion
+pub scaled_same : (t e : ℤ) (ys : List ℤ) (d : ℤ) (zs : List ℤ) → d ≡ t *ℤ e → zs ≡ scale t ys → AreSame e ys d zs
+scaled_same t e ys d zs is are i =
+    ap (λ z. cell ys i *ℤ z) is
+    ∙ (by_ring (cell ys i ∷ t ∷ e ∷ []) (var 0 ⊗ (var 1 ⊗ var 2)) (var 1 ⊗ var 0 ⊗ var 2) refl
+    ∙ ap (λ z. z *ℤ e) (sym (ap (λ ws. cell ws i) are ∙ cell-scale t ys i)))
+
 -- ---- ranges
 pub range_count : (m : Model) (a : Annot) (ranges : Ranges) → ranges ≡ map (range_of m) (left m a) → length ranges ≡ length (left m a)
 range_count m a ranges is = ap length is ∙ length-map (left m a) (range_of m)
@@ -59,7 +75,7 @@ pub range_is : (m : Model) (a : Annot) (ranges : Ranges) (i : ℕ) → ranges �
 range_is m a ranges i is h = ap (λ rs. range_at rs i) is ∙ get_or-map (range_of m) (left m a) i 0 (Open, Open) h
 
 -- ---- objectives that are defined
-named_passes : (test : ℕ → Bool) (es : List EquId) (e : ℕ) → names_equation es e ≡ true → test e ≡ true → list_any (λ x. test x.at) es ≡ true
+pub named_passes : (test : ℕ → Bool) (es : List EquId) (e : ℕ) → names_equation es e ≡ true → test e ≡ true → list_any (λ x. test x.at) es ≡ true
 named_passes test [] e h t = absurd (false≢true h)
 named_passes test (x ∷ es) e h t = go (or_cases (nat_eq x.at e) (names_equation es e) h) (named_passes test es e)
   where
@@ -67,7 +83,7 @@ named_passes test (x ∷ es) e h t = go (or_cases (nat_eq x.at e) (names_equatio
     go (inl s) rest = or_left (test x.at) (list_any (λ y. test y.at) es) (ap test (eqb-true x.at e s) ∙ t)
     go (inr s) rest = or_right (test x.at) (list_any (λ y. test y.at) es) (rest s t)
 
-some_passes : (test : ℕ → Bool) (es : List EquId) → list_any (λ x. test x.at) es ≡ true → (e : ℕ) × (test e ≡ true)
+pub some_passes : (test : ℕ → Bool) (es : List EquId) → list_any (λ x. test x.at) es ≡ true → (e : ℕ) × (test e ≡ true)
 some_passes test [] h = absurd (false≢true h)
 some_passes test (x ∷ es) h = go (or_cases (test x.at) (list_any (λ y. test y.at) es) h) (some_passes test es)
   where
