@@ -45,7 +45,8 @@ use Rattle.emp_problem.specs.GameOf.{IsRowOf, IsQuadraticOf, IsRuleOf, AreRulesO
 use Rattle.emp_meaning.specs.Laws.{left_nums}
 use Rattle.emp_meaning.specs.Ties.{left_at, Places, signed_ratio, Values}
 use Rattle.emp_meaning.proofs.Move.{left_cell, placed_cell, range_is, defined_unbound}
-use Rattle.emp_meaning.proofs.PriceLists.{decided, Listed, EachListed, constraints_listed, constraint_named, named_listed}
+use Rattle.emp_meaning.proofs.PriceLists.{decided, there_is}
+use Rattle.emp_meaning.proofs.MoveRules.{obeys_down, obeys_up}
 use Rattle.emp_meaning.proofs.Multipliers.{nothing_value}
 use Rattle.emp_meaning.proofs.Prices.{AreTied}
 
@@ -128,47 +129,15 @@ pub not_led : (n : ℤ) (m : Model) (a : Annot) (g : Game) → a.bilevel ≡ fal
 not_led n m a g h l = unled n m a g.leader (subst (λ b. LeadsAs n m a b g.leader) h l)
 
 module _ (n : ℤ) (m : Model) (a : Annot) (g : Game) (t : AreTied n m a g) (bilevel : a.bilevel ≡ true) (l : Leader) (is : IsLeaderOf n m a l) where
-  listed : EachListed m a leader (constraints m a leader)
-  listed = constraints_listed m a t.class leader bilevel
-
-  -- ---- rules
-  obeys_down : (p : Point) → Fits m p → EachConstraint m a leader (λ e q. MeetsEquation p q) → (es : List EquId) (rs : List Rule) → AreRulesOf n m (left m a) es rs → EachListed m a leader es → Obeys rs p.den (left_nums m a p)
-  obeys_down p f h [] [] ro k = tt
-  obeys_down p f h [] (r ∷ rs) ro k = absurd ro
-  obeys_down p f h (e ∷ es) [] ro k = absurd ro
-  obeys_down p f h (e ∷ es) (r ∷ rs) ro k =
-      let one = k.0 in
-      let q = one.equation in (
-        subst (λ rel. IsObeyed rel (value_at r.row p.den (left_nums m a p))) (sym (ro.0.relation q one.at)) ((t.values.meets e.at q r.row p one.at one.affine (ro.0.row q one.at) f).0 (h e.at q one.at one.is)),
-        obeys_down p f h es rs ro.1 k.1,
-      )
-
-  obeys_up : (p : Point) → Fits m p → (es : List EquId) (rs : List Rule) → AreRulesOf n m (left m a) es rs → EachListed m a leader es → Obeys rs p.den (left_nums m a p) → (e : ℕ) → names_equation es e ≡ true → (q : Equation) → slice_get m.equations e ≡ Some q → MeetsEquation p q
-  obeys_up p f [] [] ro k o e h q at = absurd (false≢true h)
-  obeys_up p f [] (r ∷ rs) ro k o e h q at = absurd ro
-  obeys_up p f (x ∷ es) [] ro k o e h q at = absurd ro
-  obeys_up p f (x ∷ es) (r ∷ rs) ro k o e h q at = go (decided (nat_eq x.at e)) (λ s. obeys_up p f es rs ro.1 k.1 o.1 e s q at)
-    where
-      go : (nat_eq x.at e ≡ true) ⊎ (nat_eq x.at e ≡ false) → (names_equation es e ≡ true → MeetsEquation p q) → MeetsEquation p q
-      go (inl s) rest =
-          let here : slice_get m.equations x.at ≡ Some q = ap (slice_get m.equations) (eqb-true x.at e s) ∙ at in
-          (t.values.meets x.at q r.row p here k.0.affine (ro.0.row q here) f).1 (subst (λ rel. IsObeyed rel (value_at r.row p.den (left_nums m a p))) (ro.0.relation q here) o.0)
-      go (inr s) rest = rest (sym (ap (λ b. b || names_equation es e) s) ∙ h)
-
   -- ---- ranges
   range_of_variable : (v : ℕ) (x : Variable) → slice_get m.variables v ≡ Some x → range_of m v ≡ (x.low, x.high)
   range_of_variable v x at = ap (λ y. (y.low, y.high)) (get_or_from_slice_get m.variables v x no_variable at)
-
-  some_variable : (xs : List Variable) (v : ℕ) → v < length xs → (x : Variable) × (slice_get xs v ≡ Some x)
-  some_variable [] v h = absurd (omega arith)
-  some_variable (x ∷ xs) zero h = (x, refl)
-  some_variable (x ∷ xs) (suc v) h = some_variable xs v (omega arith)
 
   ranges_down : (p : Point) → ((v : ℕ) (x : Variable) → slice_get m.variables v ≡ Some x → owns m a leader v ≡ true → MeetsBounds p v x) → (i : ℕ) → names l.own i ≡ true → InRange (range_at g.ranges i) (ratio (cell (left_nums m a p) i) p.den)
   ranges_down p h i own = go (chosen (place m a) (λ v. owns m a leader v) (left m a) i (ap (λ (vs : List ℕ). names vs i) (sym is.own) ∙ own))
     where
       go : Chosen (place m a) (λ v. owns m a leader v) (left m a) i → InRange (range_at g.ranges i) (ratio (cell (left_nums m a p) i) p.den)
-      go c = by_variable (some_variable m.variables c.variable (subst (λ v. v < length m.variables) at.1 (t.places.at (place m a c.variable) at.0).0))
+      go c = by_variable (there_is m.variables c.variable (subst (λ v. v < length m.variables) at.1 (t.places.at (place m a c.variable) at.0).0))
         where
           at : (place m a c.variable < length (left m a)) × (left_at m a (place m a c.variable) ≡ c.variable)
           at = placed_in (left m a) c.variable c.there
@@ -197,12 +166,12 @@ module _ (n : ℤ) (m : Model) (a : Annot) (g : Game) (t : AreTied n m a g) (bil
 
   -- ---- both ways
   pub leads_down : (p : Point) → Fits m p → IsFeasible m a leader p → LeaderObeys g (Some l) p.den (left_nums m a p)
-  leads_down p f h = (obeys_down p f h.constraints (constraints m a leader) l.rules is.rules listed, ranges_down p h.deviation.bounds)
+  leads_down p f h = (obeys_down n m a leader bilevel t.class t.values l.rules is.rules p f h.constraints, ranges_down p h.deviation.bounds)
 
   pub leads_up : (p : Point) → Fits m p → EachDefinition m a leader (λ e q. MeetsEquation p q) → LeaderObeys g (Some l) p.den (left_nums m a p) → IsFeasible m a leader p
   leads_up p f def h = record {
     deviation = record { fits = f; others = λ v k o. refl; bounds = ranges_up p h.1; definition = def };
-    constraints = λ e q at c. obeys_up p f (constraints m a leader) l.rules is.rules listed h.0 e (constraint_named m a leader e c) q at;
+    constraints = obeys_up n m a leader bilevel t.class t.values l.rules is.rules p f h.0;
   }
 
   -- ---- the order of the leader's points

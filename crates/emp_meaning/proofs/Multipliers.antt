@@ -61,7 +61,7 @@ use Rattle.emp_problem.specs.GameOf.{IsRowOf, IsQuadraticOf, AreFlowsOf, IsPurpo
 use Rattle.emp_problem.specs.Class.{BlockFits, is_affine, IsClassFile}
 use Rattle.emp_meaning.specs.Laws.{left_nums}
 use Rattle.emp_meaning.specs.Ties.{left_at, IsParty, Places, GapIs, signed_ratio, Values, Deviates, Deviations}
-use Rattle.emp_meaning.proofs.Move.{IsTied, placed_cell}
+use Rattle.emp_meaning.proofs.Move.{IsTied, block_fits, placed_cell}
 use Rattle.emp_meaning.proofs.Deviations.{deviations}
 use Rattle.emp_meaning.proofs.PriceLists.{decided, all_here, there_is, Listed, EachListed, constraint_named, constraints_listed, function_affine}
 
@@ -375,7 +375,7 @@ module _ (n : ℤ) (m : Model) (a : Annot) (k : ℕ) (pn : pos 0 <ℤ n) (class 
 
       paired : EachPaired n m a pn pairs
       paired = each_paired (Vi zeros pairs equs) at (ap block_objective at) pairs (λ e s. s) (λ v s. list_any-append (λ x. nat_eq x.at v) zeros (map (λ q. q.1) pairs) ∙ or_second (names_variable zeros v) (names_variable (map (λ q. q.1) pairs) v) s)
-          (all_here (BlockFits (length m.variables) (length m.equations)) a.blocks k (Vi zeros pairs equs) at class.fits.blocks).1
+          (block_fits m a k (Vi zeros pairs equs) class at).1
 
 -- ---- the purpose less what is charged
 value_back : (x : Option Ratio) (y : Ratio) → SameValue x (Some y) → SameValue (Some y) x

@@ -2,7 +2,7 @@
 use Rattle.std.proofs.Common.{◌≡◌, ◌⊎◌, inl, inr, ℕ, zero, suc, ◌+◌, ◌<◌, Bool, true, false, ◌&&◌, ◌||◌, not, cond, nat_eq, List, [], ◌∷◌, ◌++◌, All, map, length, Option, Some, None, arith, refl, sym, ap, ap₂, subst, ◌∙◌}
 use Rattle.std.specs.Prelude.{slice_get, slice_index_or}
 use Rattle.std.specs.List.{list_any, filter}
-use Rattle.std.proofs.lemmas.Bool.{eqb-true, false≢true}
+use Rattle.std.proofs.lemmas.Bool.{eqb-true, and_from, false≢true}
 use Rattle.std.proofs.lemmas.Option.{slice_get_within, get_or_from_slice_get, slice_get-get_or}
 use Rattle.std.proofs.lemmas.List.Elements.{All-nil, All-cons, All-head, All-tail, All-append, All-map, All-filter, All-weaker}
 use Rattle.std.proofs.lemmas.List.Folds.{list_any_at}
@@ -13,18 +13,14 @@ use Rattle.emp_ast.specs.declared.annot.Block.{Block}
 use Rattle.emp_ast.specs.declared.annot.Block.TheVariants.{Agent, Vi}
 use Rattle.emp_ast.specs.declared.annot.Annot.{Annot}
 use Rattle.emp_ast.specs.Parties.{Party, leader, block, names_variable, names_equation, block_variables, listed_equations, functions, block_equations, all_equations, equations_by, equations, some_block_has, defines, block_functions, is_constraint, constraints}
-use Rattle.emp_conditions.proofs.Distinct.{and_parts}
 use Rattle.emp_split.proofs.Each.{or_first, or_second}
 use Rattle.emp_problem.specs.Class.{AnnotFits, BlockFits, EquationsFit, some_block_constrains, is_function, is_affine, IsClassFile}
 use Rattle.emp_meaning.specs.Ties.{IsParty}
+use Rattle.emp_meaning.proofs.Move.{block_fits}
 
 pub decided : (b : Bool) → (b ≡ true) ⊎ (b ≡ false)
 decided true = inl refl
 decided false = inr refl
-
-pub and_both : (b c : Bool) → b ≡ true → c ≡ true → b && c ≡ true
-and_both true c h k = k
-and_both false c h k = absurd (false≢true h)
 
 pub any_here : {X : Type 0} (test : X → Bool) (xs : List X) (i : ℕ) (x : X) → slice_get xs i ≡ Some x → test x ≡ true → list_any test xs ≡ true
 any_here test xs i x h t = list_any_at test xs i x (slice_get_within xs i x h) (ap test (get_or_from_slice_get xs i x x h) ∙ t)
@@ -47,7 +43,7 @@ some_constrains m a e (suc n) k l h = go (last_or_before k n l) (λ s. some_cons
 pub constraint_affine : (m : Model) (a : Annot) (k : Party) (e : ℕ) → IsParty a k → is_constraint m a k e ≡ true → is_affine m a e ≡ true
 constraint_affine m a leader e p h =
     or_second (some_block_constrains m a e (length a.blocks)) ((a.bilevel && is_constraint m a leader e) || is_function a e)
-    (or_first (a.bilevel && is_constraint m a leader e) (is_function a e) (and_both a.bilevel (is_constraint m a leader e) p h))
+    (or_first (a.bilevel && is_constraint m a leader e) (is_function a e) (and_from a.bilevel (is_constraint m a leader e) p h))
 constraint_affine m a (block k) e p h =
     or_first (some_block_constrains m a e (length a.blocks)) ((a.bilevel && is_constraint m a leader e) || is_function a e) (some_constrains m a e (length a.blocks) k p h)
 
@@ -80,7 +76,7 @@ equations_below m a class (block k) = go (slice_get a.blocks k) refl
     go None at = All-nil (Below (length m.equations))
     go (Some b) at =
         All-append (Below (length m.equations)) (listed_equations b) (map (λ i. i.1) (filter (λ i. names_variable (block_variables b) i.0.at) a.implicits))
-        (listed_below (length m.variables) (length m.equations) b (all_here (BlockFits (length m.variables) (length m.equations)) a.blocks k b at class.fits.blocks))
+        (listed_below (length m.variables) (length m.equations) b (block_fits m a k b class at))
         (All-map (Below (length m.equations)) (λ i. i.1) (filter (λ i. names_variable (block_variables b) i.0.at) a.implicits)
         (All-filter (λ i. names_variable (block_variables b) i.0.at) (λ i. Below (length m.equations) i.1) a.implicits
         (All-weaker (λ i. (i.0.at < length m.variables) × (i.1.at < length m.equations)) (λ i. Below (length m.equations) i.1) (λ i w. w.1) a.implicits class.fits.implicits)))

@@ -43,7 +43,7 @@ use Rattle.emp_problem.specs.Class.{IsClassFile}
 use Rattle.emp_meaning.specs.Laws.{left_nums}
 use Rattle.emp_meaning.specs.Ties.{Places, Owners, Values}
 use Rattle.emp_meaning.proofs.PriceLists.{decided, any_here, all_here, there_is, Listed, EachListed, constraints_listed, constraint_named, named_listed}
-use Rattle.emp_meaning.proofs.Move.{IsTied, placed_cell}
+use Rattle.emp_meaning.proofs.Move.{IsTied, placed_cell, named_passes}
 use Rattle.emp_meaning.proofs.Multipliers.{multipliers_down, multipliers_up}
 
 -- ---- one denominator
@@ -210,14 +210,6 @@ dual_is m a (x ∷ ds) e (suc i) d c at t = go (decided (nat_eq x.1.at e)) (λ k
         let same : count_by (λ y. nat_eq y.1.at e) (x ∷ ds) ≡ 0 + count_by (λ y. nat_eq y.1.at e) ds = counted_more (λ y. nat_eq y.1.at e) x ds false s in
         ap (λ b. cond b (Some (place m a x.0.at)) (dual_of (dual_pairs m a ds) e)) s ∙ rest (omega arith)
 
-any_named : (test : ℕ → Bool) (es : List EquId) (e : ℕ) → names_equation es e ≡ true → test e ≡ true → list_any (λ x. test x.at) es ≡ true
-any_named test [] e h t = h
-any_named test (x ∷ es) e h t = go (decided (nat_eq x.at e)) (λ s. any_named test es e s t)
-  where
-    go : (nat_eq x.at e ≡ true) ⊎ (nat_eq x.at e ≡ false) → (names_equation es e ≡ true → list_any (λ y. test y.at) es ≡ true) → test x.at || list_any (λ y. test y.at) es ≡ true
-    go (inl s) rest = or_first (test x.at) (list_any (λ y. test y.at) es) (ap test (eqb-true x.at e s) ∙ t)
-    go (inr s) rest = or_second (test x.at) (list_any (λ y. test y.at) es) (rest (sym (ap (λ b. b || names_equation es e) s) ∙ h))
-
 -- ---- a dual variable is left
 first_not : (b c d e f : Bool) → c ≡ false → b && c && d && e && f ≡ false
 first_not true true d e f h = absurd (false≢true (sym h))
@@ -314,7 +306,7 @@ module _ (n : ℤ) (m : Model) (a : Annot) (g : Game) (t : AreTied n m a g) wher
   priced_same k b pl is = priced_rules (constraints m a (block k)) pl.rules is.rules
 
   priced_by : (k e : ℕ) → is_constraint m a (block k) e ≡ true → price_test e ≡ true → is_priced m a k ≡ true
-  priced_by k e h w = any_named price_test (constraints m a (block k)) e (constraint_named m a (block k) e h) w
+  priced_by k e h w = named_passes price_test (constraints m a (block k)) e (constraint_named m a (block k) e h) w
 
   -- ---- from the file to the game
   module _ (p : Point) (u : ℕ → ℕ → Ratio) (f : Fits m p) (h : Prices.ArePrices m a p u) where

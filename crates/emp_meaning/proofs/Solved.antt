@@ -70,7 +70,7 @@ module _ (n : ℤ) (m : Model) (a : Annot) (ranges : Ranges) (k : ℕ) (b : Bloc
   ties = deviations n m a ranges k b pl tied
 
   pub rival_down : (p r : Point) → Fits m p → IsRival m a (block k) p r → Play.IsRival ranges pl p.den (left_nums m a p) r.den (left_nums m a r)
-  rival_down p r fits h = record { deviation = ties.down p r fits h.deviation; obeys = obeys_down n m a ranges k b pl tied r h.deviation.fits h.constraints }
+  rival_down p r fits h = record { deviation = ties.down p r fits h.deviation; obeys = obeys_down n m a (block k) (slice_get_within a.blocks k b tied.there) tied.class tied.values pl.rules tied.player.rules r h.deviation.fits h.constraints }
 
   pub rival_up : (p : Point) (e : ℤ) (ys : List ℤ) → Fits m p → pos 0 <ℤ e → Play.IsRival ranges pl p.den (left_nums m a p) e ys → Rivals m a k p e ys
   rival_up p e ys fits above h =
@@ -80,7 +80,7 @@ module _ (n : ℤ) (m : Model) (a : Annot) (ranges : Ranges) (k : ℕ) (b : Bloc
         point = d.point;
         rival = record {
           deviation = d.deviation;
-          constraints = obeys_up n m a ranges k b pl tied d.point d.deviation.fits (subst (λ z. Obeys pl.rules z (left_nums m a d.point)) (sym d.den) (subst (λ zs. Obeys pl.rules (d.times *ℤ e) zs) (sym d.nums) obeys));
+          constraints = obeys_up n m a (block k) (slice_get_within a.blocks k b tied.there) tied.class tied.values pl.rules tied.player.rules d.point d.deviation.fits (subst (λ z. Obeys pl.rules z (left_nums m a d.point)) (sym d.den) (subst (λ zs. Obeys pl.rules (d.times *ℤ e) zs) (sym d.nums) obeys));
         };
         times = d.times;
         positive = d.positive;
@@ -89,7 +89,7 @@ module _ (n : ℤ) (m : Model) (a : Annot) (ranges : Ranges) (k : ℕ) (b : Bloc
       }
 
   pub feasible_up : (p : Point) → Fits m p → EachDefinition m a (block k) (λ e q. MeetsEquation p q) → Play.IsRival ranges pl p.den (left_nums m a p) p.den (left_nums m a p) → IsFeasible m a (block k) p
-  feasible_up p fits meets h = record { deviation = itself_up n m a ranges k b pl tied p fits meets h.deviation; constraints = obeys_up n m a ranges k b pl tied p fits h.obeys }
+  feasible_up p fits meets h = record { deviation = itself_up n m a ranges k b pl tied p fits meets h.deviation; constraints = obeys_up n m a (block k) (slice_get_within a.blocks k b tied.there) tied.class tied.values pl.rules tied.player.rules p fits h.obeys }
 
   -- ---- agents
   abbrev value_over : Quadratic → ℤ → List ℤ → Ratio
