@@ -306,8 +306,7 @@ module _ (n : ℤ) (m : Model) (a : Annot) (g : Game) (t : AreTied n m a g) (bil
           let gx = ratio x (n *ℤ p.den) in
           let gy = ratio y (n *ℤ q.den) in
           let fx = signed_ratio w.0 (coordinate p w.1) in
-          let fy = signed_ratio w.0 (coordinate q w.1) in
-          (
+          let fy = signed_ratio w.0 (coordinate q w.1) in (
             λ h. (better_signed w.0 (coordinate p w.1) (coordinate q w.1)).1 (smaller_same gx fx gy fy (fraction_back fx gx one) (fraction_back fy gy two) ((smaller_whole x y p.den q.den).1 h)),
             λ h. (smaller_whole x y p.den q.den).0 (smaller_same fx gx fy gy one two ((better_signed w.0 (coordinate p w.1) (coordinate q w.1)).0 h)),
           )
