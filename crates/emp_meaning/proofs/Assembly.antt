@@ -23,19 +23,12 @@ use Rattle.emp_problem.specs.GameOf.{IsPlayerOf, IsGameOf}
 use Rattle.emp_problem.specs.Class.{IsClassFile, SolvesBy, SolvesFile, MeetsDefinitions}
 use Rattle.emp_meaning.specs.Laws.{left_nums}
 use Rattle.emp_meaning.proofs.Move.{left_count, range_count}
-use Rattle.emp_meaning.proofs.PriceLists.{there_is}
-use Rattle.emp_meaning.proofs.Prices.{AreTied, Priced, each_player, player_of, prices_down, prices_up}
+use Rattle.emp_meaning.proofs.MoveGame.{all_solved_down, all_solved_up}
+use Rattle.emp_meaning.proofs.Prices.{AreTied, Priced, prices_down, prices_up}
 use Rattle.emp_meaning.proofs.Leading.{Led, led, not_led, leads_down, leads_up, better_same}
 
--- a block is solved exactly where its player is
-abbrev pub SolvedAlike : ℤ → Model → Annot → Game → Type 0
-SolvedAlike n m a g = (k : ℕ) (b : Block) (pl : Player) → slice_get a.blocks k ≡ Some b → IsPlayerOf n m a k b pl → (p : Point) → Fits m p → (IsSolved m a k p → Play.IsSolved g.ranges pl p.den (left_nums m a p)) × (EachDefinition m a (block k) (λ e q. MeetsEquation p q) → Play.IsSolved g.ranges pl p.den (left_nums m a p) → IsSolved m a k p)
-
-module _ (n : ℤ) (m : Model) (a : Annot) (g : Game) (t : AreTied n m a g) (alike : SolvedAlike n m a g) where
+module _ (n : ℤ) (m : Model) (a : Annot) (g : Game) (t : AreTied n m a g) where
   -- ---- equilibria
-  abbrev PlayerSolved : Point → ℕ → Player → Type 0
-  PlayerSolved p k pl = Play.IsSolved g.ranges pl p.den (left_nums m a p)
-
   count_is : (p : Point) → length (left_nums m a p) ≡ coordinates g
   count_is p = left_count m a p ∙ sym (range_count m a g.ranges t.game.ranges)
 
@@ -45,17 +38,14 @@ module _ (n : ℤ) (m : Model) (a : Annot) (g : Game) (t : AreTied n m a g) (ali
       record {
         count = count_is p;
         leads = leads;
-        solved = each_player n m a g t (PlayerSolved p) (λ k b pl at is. (alike k b pl at is p h.fits).0 (h.solved k (slice_get_within a.blocks k b at)));
+        solved = all_solved_down n m a g t.class t.game t.places t.values t.owners p h.solved;
         times = priced.times;
         number = priced.number;
         prices = priced.prices;
       }
 
-  solved_up : (p : Point) → Fits m p → MeetsDefinitions m a p → EachPlayer (PlayerSolved p) 0 g.players → (k : ℕ) → k < length a.blocks → IsSolved m a k p
-  solved_up p f def h k l = go (there_is a.blocks k l)
-    where
-      go : (b : Block) × (slice_get a.blocks k ≡ Some b) → IsSolved m a k p
-      go b = let x = player_of n m a g t (PlayerSolved p) h k b.0 b.1 in (alike k b.0 x.player b.1 x.is p f).1 (def.blocks k l) x.holds
+  solved_up : (p : Point) → Fits m p → MeetsDefinitions m a p → EachPlayer (λ k pl. Play.IsSolved g.ranges pl p.den (left_nums m a p)) 0 g.players → (k : ℕ) → k < length a.blocks → IsSolved m a k p
+  solved_up p f def h = all_solved_up n m a g t.class t.game t.places t.values t.owners p def.blocks f h
 
   equilibrium_up : (p : Point) → Fits m p → MeetsDefinitions m a p → IsAdmissible g p.den (left_nums m a p) → IsEquilibrium m a p
   equilibrium_up p f def h = record {

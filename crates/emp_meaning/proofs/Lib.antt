@@ -3,7 +3,9 @@ pub mod Move
 pub mod Deviations
 pub mod PriceLists
 pub mod MoveRules
+pub mod MoveFlows
 pub mod Solved
+pub mod MoveGame
 pub mod Multipliers
 pub mod Prices
 pub mod Leading

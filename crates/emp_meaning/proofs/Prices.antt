@@ -4,7 +4,7 @@ use Rattle.std.specs.Prelude.{slice_get, is_some, nat_le, unwrap_or}
 use Rattle.std.specs.List.{list_any, count_by}
 use Rattle.std.proofs.lemmas.Int.{ints}
 use Rattle.std.proofs.lemmas.Bool.{eqb-true, false≢true}
-use Rattle.std.proofs.lemmas.Option.{slice_get_within}
+use Rattle.std.proofs.lemmas.Option.{same_Some, slice_get_within}
 use Rattle.std.proofs.lemmas.List.Sums.{sum_by-cons}
 use Rattle.std.proofs.lemmas.List.Folds.{list_any_none}
 use Rattle.emp_algebra.proofs.Ring.{var, ◌⊗◌, by_ring}
@@ -44,6 +44,7 @@ use Rattle.emp_meaning.specs.Laws.{left_nums}
 use Rattle.emp_meaning.specs.Ties.{Places, Owners, Values}
 use Rattle.emp_meaning.proofs.PriceLists.{decided, any_here, all_here, there_is, Listed, EachListed, constraints_listed, constraint_named, named_listed}
 use Rattle.emp_meaning.proofs.Move.{IsTied, placed_cell, named_passes}
+use Rattle.emp_meaning.proofs.MoveGame.{each_player, its_player, tied_by}
 use Rattle.emp_meaning.proofs.Multipliers.{multipliers_down, multipliers_up}
 
 -- ---- one denominator
@@ -117,27 +118,6 @@ numbers rows columns u d = record {
     all : Common rows (λ i. (each i).times)
     all = common rows (λ i. (each i).times) (λ i. (each i).positive)
 
--- ---- players and blocks
-some_is : {X : Type 0} (x y : X) → Some x ≡ Some y → x ≡ y
-some_is x y h = ap (λ o. unwrap_or o x) h
-
-pub record Playing (n : ℤ) (m : Model) (a : Annot) (P : ℕ → Player → Type 0) (k : ℕ) (b : Block) : Type 0 where
-  pub player : Player
-  pub is : IsPlayerOf n m a k b player
-  pub holds : P k player
-
-pub playing : (n : ℤ) (m : Model) (a : Annot) (P : ℕ → Player → Type 0) (j : ℕ) (bs : List Block) (pls : List Player) → ArePlayersOf n m a j bs pls → EachPlayer P j pls → (i : ℕ) (b : Block) → slice_get bs i ≡ Some b → (k : ℕ) → k ≡ j + i → Playing n m a P k b
-playing n m a P j [] pls h e i b at k s = absurd (let l = slice_get_within [] i b at in omega arith)
-playing n m a P j (c ∷ bs) [] h e i b at k s = absurd h
-playing n m a P j (c ∷ bs) (pl ∷ pls) h e zero b at k s = subst (λ i. Playing n m a P i b) (omega arith) (record { player = pl; is = subst (λ d. IsPlayerOf n m a j d pl) (some_is c b at) h.0; holds = e.0 })
-playing n m a P j (c ∷ bs) (pl ∷ pls) h e (suc i) b at k s = playing n m a P (suc j) bs pls h.1 e.1 i b at k (omega arith)
-
-pub each_of : (n : ℤ) (m : Model) (a : Annot) (P : ℕ → Player → Type 0) (j : ℕ) (bs : List Block) (pls : List Player) → ((i k : ℕ) → k ≡ j + i → slice_get a.blocks k ≡ slice_get bs i) → ArePlayersOf n m a j bs pls → ((k : ℕ) (b : Block) (pl : Player) → slice_get a.blocks k ≡ Some b → IsPlayerOf n m a k b pl → P k pl) → EachPlayer P j pls
-each_of n m a P j [] [] s h f = tt
-each_of n m a P j [] (pl ∷ pls) s h f = absurd h
-each_of n m a P j (b ∷ bs) [] s h f = absurd h
-each_of n m a P j (b ∷ bs) (pl ∷ pls) s h f = (f j b pl (s 0 j (omega arith)) h.0, each_of n m a P (suc j) bs pls (λ i k e. s (suc i) k (omega arith)) h.1 f)
-
 -- ---- what the rules, the duals and the shared equations name
 pub rules_name : (n : ℤ) (m : Model) (vs : List ℕ) (es : List EquId) (rs : List Rule) (e : ℕ) → AreRulesOf n m vs es rs → has_rule rs e ≡ names_equation es e
 rules_name n m vs [] [] e h = refl
@@ -190,7 +170,7 @@ counted_more test x xs b h = sum_by-cons (λ y. cond (test y) 1 0) x xs ∙ ap (
 
 counted_once : {X : Type 0} (test : X → Bool) (xs : List X) (i : ℕ) (x : X) → slice_get xs i ≡ Some x → test x ≡ true → 1 ≤ count_by test xs
 counted_once test [] i x at t = absurd (let l = slice_get_within [] i x at in omega arith)
-counted_once test (y ∷ xs) zero x at t = let e : count_by test (y ∷ xs) ≡ 1 + count_by test xs = counted_more test y xs true (ap test (some_is y x at) ∙ t) in omega arith
+counted_once test (y ∷ xs) zero x at t = let e : count_by test (y ∷ xs) ≡ 1 + count_by test xs = counted_more test y xs true (ap test (same_Some y x at) ∙ t) in omega arith
 counted_once test (y ∷ xs) (suc i) x at t =
     let l = counted_once test xs i x at t in
     let e : count_by test (y ∷ xs) ≡ cond (test y) 1 0 + count_by test xs = counted_more test y xs (test y) refl in
@@ -198,7 +178,7 @@ counted_once test (y ∷ xs) (suc i) x at t =
 
 dual_is : (m : Model) (a : Annot) (ds : List (VarId × EquId)) (e i : ℕ) (d : VarId × EquId) → count_by (λ x. nat_eq x.1.at e) ds < 2 → slice_get ds i ≡ Some d → nat_eq d.1.at e ≡ true → dual_of (dual_pairs m a ds) e ≡ Some (place m a d.0.at)
 dual_is m a [] e i d c at t = absurd (let l = slice_get_within [] i d at in omega arith)
-dual_is m a (x ∷ ds) e zero d c at t = ap (λ b. cond b (Some (place m a x.0.at)) (dual_of (dual_pairs m a ds) e)) (ap (λ y. nat_eq y.1.at e) (some_is x d at) ∙ t) ∙ ap (λ y. Some (place m a y.0.at)) (some_is x d at)
+dual_is m a (x ∷ ds) e zero d c at t = ap (λ b. cond b (Some (place m a x.0.at)) (dual_of (dual_pairs m a ds) e)) (ap (λ y. nat_eq y.1.at e) (same_Some x d at) ∙ t) ∙ ap (λ y. Some (place m a y.0.at)) (same_Some x d at)
 dual_is m a (x ∷ ds) e (suc i) d c at t = go (decided (nat_eq x.1.at e)) (λ k. dual_is m a ds e i d k at t)
   where
     go : (nat_eq x.1.at e ≡ true) ⊎ (nat_eq x.1.at e ≡ false) → (count_by (λ y. nat_eq y.1.at e) ds < 2 → dual_of (dual_pairs m a ds) e ≡ Some (place m a d.0.at)) → dual_of (dual_pairs m a (x ∷ ds)) e ≡ Some (place m a d.0.at)
@@ -264,14 +244,8 @@ pub record Priced (m : Model) (a : Annot) (g : Game) (p : Point) : Type 0 where
   pub prices : ArePrices g p.den (left_nums m a p) times number
 
 module _ (n : ℤ) (m : Model) (a : Annot) (g : Game) (t : AreTied n m a g) where
-  pub tied : (k : ℕ) (b : Block) (pl : Player) → slice_get a.blocks k ≡ Some b → IsPlayerOf n m a k b pl → IsTied n m a g.ranges k b pl
-  tied k b pl at is = record { positive = t.game.positive; class = t.class; places = t.places; owners = t.owners k b pl at is; ends = t.game.ranges; values = t.values; there = at; player = is }
-
-  pub each_player : (P : ℕ → Player → Type 0) → ((k : ℕ) (b : Block) (pl : Player) → slice_get a.blocks k ≡ Some b → IsPlayerOf n m a k b pl → P k pl) → EachPlayer P 0 g.players
-  each_player P f = each_of n m a P 0 a.blocks g.players (λ i k e. let s : k ≡ i = omega arith in ap (slice_get a.blocks) s) t.game.players f
-
-  pub player_of : (P : ℕ → Player → Type 0) → EachPlayer P 0 g.players → (k : ℕ) (b : Block) → slice_get a.blocks k ≡ Some b → Playing n m a P k b
-  player_of P h k b at = playing n m a P 0 a.blocks g.players t.game.players h k b at k (omega arith)
+  tied : (k : ℕ) (b : Block) (pl : Player) → slice_get a.blocks k ≡ Some b → IsPlayerOf n m a k b pl → IsTied n m a g.ranges k b pl
+  tied = tied_by n m a g t.class t.game t.places t.values t.owners
 
   listed : (k : ℕ) → k < length a.blocks → EachListed m a (block k) (constraints m a (block k))
   listed k l = constraints_listed m a t.class (block k) l
@@ -355,7 +329,7 @@ module _ (n : ℤ) (m : Model) (a : Annot) (g : Game) (t : AreTied n m a g) wher
     Constrains k pl = (k < length a.blocks) × ((e : ℕ) → has_rule pl.rules e ≡ true → is_constraint m a (block k) e ≡ true)
 
     constrains : EachPlayer Constrains 0 g.players
-    constrains = each_player Constrains (λ k b pl at is. (slice_get_within a.blocks k b at, λ e r. (rule_listed k b pl at is e r).is))
+    constrains = each_player n m a g Constrains t.game (λ k b pl at is. (slice_get_within a.blocks k b at, λ e r. (rule_listed k b pl at is e r).is))
 
     same_numbers : (j k e : ℕ) → j < length a.blocks → k < length a.blocks → names_equation a.visols e ≡ true → is_constraint m a (block j) e ≡ true → is_constraint m a (block k) e ≡ true → whole.number j e ≡ whole.number k e
     same_numbers j k e jl kl v ji ki =
@@ -386,8 +360,8 @@ module _ (n : ℤ) (m : Model) (a : Annot) (g : Game) (t : AreTied n m a g) wher
       number = whole.number;
       prices = record {
         positive = whole.positive;
-        multipliers = each_player (λ k pl. Split.is_priced g pl.rules ≡ true → Play.AreMultipliers g.ranges pl (whole.times *ℤ p.den) (scale whole.times (left_nums m a p)) (map (λ r. whole.number k r.equation) pl.rules)) down_multipliers;
-        duals = each_player (λ k pl. (e c : ℕ) → has_rule pl.rules e ≡ true → dual_of g.duals e ≡ Some c → whole.number k e ≡ whole.times *ℤ cell (left_nums m a p) c) down_duals;
+        multipliers = each_player n m a g (λ k pl. Split.is_priced g pl.rules ≡ true → Play.AreMultipliers g.ranges pl (whole.times *ℤ p.den) (scale whole.times (left_nums m a p)) (map (λ r. whole.number k r.equation) pl.rules)) t.game down_multipliers;
+        duals = each_player n m a g (λ k pl. (e c : ℕ) → has_rule pl.rules e ≡ true → dual_of g.duals e ≡ Some c → whole.number k e ≡ whole.times *ℤ cell (left_nums m a p) c) t.game down_duals;
         shared = each (λ k pl. Constrains k pl × ((e : ℕ) → has_rule pl.rules e ≡ true → some_has g.players e ≡ true)) Shares down_shared 0 g.players (each_both Constrains (λ k pl. (e : ℕ) → has_rule pl.rules e ≡ true → some_has g.players e ≡ true) 0 g.players constrains (each_has 0 g.players));
       };
     }
@@ -409,19 +383,19 @@ module _ (n : ℤ) (m : Model) (a : Annot) (g : Game) (t : AreTied n m a g) wher
       where
         go : (b : Block) × (slice_get a.blocks k ≡ Some b) → File.AreMultipliers m a k p (price k)
         go b =
-            let x = player_of (λ j pl. Split.is_priced g pl.rules ≡ true → Play.AreMultipliers g.ranges pl (times *ℤ p.den) (scale times (left_nums m a p)) (map (λ r. number j r.equation) pl.rules)) h.multipliers k b.0 b.1 in
-            multipliers_up n m a g.ranges k b.0 x.player (tied k b.0 x.player b.1 x.is) (number k) times p h.positive f (d k l) (x.holds (priced_same k b.0 x.player x.is ∙ w))
+            let x = its_player n m a g (λ j pl. Split.is_priced g pl.rules ≡ true → Play.AreMultipliers g.ranges pl (times *ℤ p.den) (scale times (left_nums m a p)) (map (λ r. number j r.equation) pl.rules)) k b.0 t.game h.multipliers b.1 in
+            multipliers_up n m a g.ranges k b.0 x.player (tied k b.0 x.player b.1 x.of) (number k) times p h.positive f (d k l) (x.holds (priced_same k b.0 x.player x.of ∙ w))
 
     up_duals : (k i : ℕ) (c : VarId × EquId) → k < length a.blocks → slice_get a.duals i ≡ Some c → is_constraint m a (block k) c.1.at ≡ true → SameRatio (price k c.1.at) (coordinate p c.0.at)
     up_duals k i c l at is = go (there_is a.blocks k l)
       where
         go : (b : Block) × (slice_get a.blocks k ≡ Some b) → number k c.1.at *ℤ p.den ≡ cell p.nums c.0.at *ℤ (times *ℤ p.den)
         go b =
-            let x = player_of (λ j pl. (e v : ℕ) → has_rule pl.rules e ≡ true → dual_of g.duals e ≡ Some v → number j e ≡ times *ℤ cell (left_nums m a p) v) h.duals k b.0 b.1 in
+            let x = its_player n m a g (λ j pl. (e v : ℕ) → has_rule pl.rules e ≡ true → dual_of g.duals e ≡ Some v → number j e ≡ times *ℤ cell (left_nums m a p) v) k b.0 t.game h.duals b.1 in
             let below = all_here (λ y. (y.0.at < length m.variables) × (y.1.at < length m.equations)) a.duals i c at t.class.fits.duals in
             let is_one : is_dual a c.0.at ≡ true = any_here (λ y. nat_eq y.0.at c.0.at) a.duals i c at (eqb_refl c.0.at) in
             let found : dual_of g.duals c.1.at ≡ Some (place m a c.0.at) = ap (λ (ds : List (ℕ × ℕ)). dual_of ds c.1.at) t.game.duals ∙ dual_is m a a.duals c.1.at i c (one_dual c.1.at below.1) at (eqb_refl c.1.at) in
-            let there : number k c.1.at ≡ times *ℤ cell p.nums c.0.at = x.holds c.1.at (place m a c.0.at) (constraint_rule k b.0 x.player x.is c.1.at is) found ∙ ap (λ z. times *ℤ z) (placed_cell m a p c.0.at t.places below.0 (dual_left m a c.0.at is_one)) in
+            let there : number k c.1.at ≡ times *ℤ cell p.nums c.0.at = x.holds c.1.at (place m a c.0.at) (constraint_rule k b.0 x.player x.of c.1.at is) found ∙ ap (λ z. times *ℤ z) (placed_cell m a p c.0.at t.places below.0 (dual_left m a c.0.at is_one)) in
             ap (λ z. z *ℤ p.den) there ∙ by_ring (times ∷ cell p.nums c.0.at ∷ p.den ∷ []) (var 0 ⊗ var 1 ⊗ var 2) (var 1 ⊗ (var 0 ⊗ var 2)) refl
 
     held : (k e : ℕ) → k < length a.blocks → names_equation a.visols e ≡ true → is_constraint m a (block k) e ≡ true → number k e ≡ number (first_with 0 g.players e) e
@@ -429,8 +403,8 @@ module _ (n : ℤ) (m : Model) (a : Annot) (g : Game) (t : AreTied n m a g) wher
       where
         go : (b : Block) × (slice_get a.blocks k ≡ Some b) → number k e ≡ number (first_with 0 g.players e) e
         go b =
-            let x = player_of (λ j pl. (i : ℕ) → has_rule pl.rules i ≡ true → number j i ≡ number (holder g j i) i) h.shared k b.0 b.1 in
-            x.holds e (constraint_rule k b.0 x.player x.is e is) ∙ ap (λ i. number i e) (holder_first g k e (visol_same e ∙ v))
+            let x = its_player n m a g (λ j pl. (i : ℕ) → has_rule pl.rules i ≡ true → number j i ≡ number (holder g j i) i) k b.0 t.game h.shared b.1 in
+            x.holds e (constraint_rule k b.0 x.player x.of e is) ∙ ap (λ i. number i e) (holder_first g k e (visol_same e ∙ v))
 
     pub prices_up : Prices.ArePrices m a p (λ k e. ratio (number k e) (times *ℤ p.den))
     prices_up = record {
