@@ -59,7 +59,7 @@ pub signed_above : (s : Sense) (x : Ratio) → pos 0 <ℤ x.bottom → pos 0 <�
 signed_above Min x h = h
 signed_above Max x h = h
 
-signed_turned : (s : Sense) (x y : Ratio) → SameRatio x (signed_ratio s y) → SameRatio (signed_ratio s x) y
+pub signed_turned : (s : Sense) (x y : Ratio) → SameRatio x (signed_ratio s y) → SameRatio (signed_ratio s x) y
 signed_turned Min x y h = h
 signed_turned Max x y h = neg_ℤ-*ℤ x.top y.bottom ∙ (ap neg_ℤ h ∙ by_ring (y.top ∷ x.bottom ∷ []) (neg (neg (var 0) ⊗ var 1)) (var 0 ⊗ var 1) refl)
 

@@ -1,8 +1,9 @@
 -- Lists whose entries differ, and what is left of them when they are mapped and filtered.
 use Rattle.std.proofs.Common.{◌≡◌, ◌⊎◌, inl, inr, ℕ, zero, suc, ◌+◌, ◌<◌, ◌≤◌, Bool, true, false, ◌||◌, cond, nat_eq, List, [], ◌∷◌, All, map, arith, refl, sym, ap, subst, ◌∙◌}
-use Rattle.std.specs.Prelude.{slice_get, Option, Some}
+use Rattle.std.specs.Prelude.{slice_get, Some}
 use Rattle.std.specs.List.{list_any, filter, count_by}
-use Rattle.std.proofs.lemmas.Bool.{eq-eqb, eqb-true, ne_eqb, leb-false, or_cases, or_from, false≢true, cases_Bool, false_from_ne_true, cond_both}
+use Rattle.std.proofs.lemmas.Bool.{eq-eqb, eqb-true, ne_eqb, or_cases, or_from, false≢true, cases_Bool, false_from_ne_true, cond_both}
+use Rattle.std.proofs.lemmas.Option.{same_Some}
 use Rattle.std.proofs.lemmas.List.Sums.{sum_by-cons}
 use Rattle.std.proofs.lemmas.List.Elements.{All-nil, All-cons, All-head, All-tail}
 use Rattle.emp_game.specs.Game.{names, AreApart}
@@ -43,6 +44,22 @@ count_filter test keep (x ∷ xs) = go (cases_Bool (keep x)) (count_filter test 
         let kept : count_by test (filter keep (x ∷ xs)) ≡ count_by test (filter keep xs) = ap (λ b. count_by test (cond b (x ∷ filter keep xs) (filter keep xs))) s in
         let all = count_cons test x xs in
         omega (arith, kept, all, rest)
+
+-- an entry that passes counts
+pub count_some : {X : Type 0} (test : X → Bool) (xs : List X) (i : ℕ) (x : X) → slice_get xs i ≡ Some x → test x ≡ true → 1 ≤ count_by test xs
+count_some test [] i x at h = cc
+count_some test (y ∷ ys) zero x at h = let c = count_cons test y ys in let one : one_if (test y) ≡ 1 = ap (λ z. one_if (test z)) (same_Some y x at) ∙ ap one_if h in omega (arith, c, one)
+count_some test (y ∷ ys) (suc i) x at h = let c = count_cons test y ys in let rest = count_some test ys i x at h in omega (arith, c, rest)
+
+pub count_two : {X : Type 0} (test : X → Bool) (xs : List X) (i j : ℕ) (x y : X) → i < j → slice_get xs i ≡ Some x → slice_get xs j ≡ Some y → test x ≡ true → test y ≡ true → 2 ≤ count_by test xs
+count_two test [] i j x y l at there h k = cc
+count_two test (z ∷ zs) i zero x y l at there h k = absurd (omega arith)
+count_two test (z ∷ zs) zero (suc j) x y l at there h k =
+    let c = count_cons test z zs in
+    let one : one_if (test z) ≡ 1 = ap (λ u. one_if (test u)) (same_Some z x at) ∙ ap one_if h in
+    let rest = count_some test zs j y there k in
+    omega (arith, c, one, rest)
+count_two test (z ∷ zs) (suc i) (suc j) x y l at there h k = let c = count_cons test z zs in let rest = count_two test zs i j x y (omega arith) at there h k in omega (arith, c, rest)
 
 -- ---- lists that are filtered
 pub filter_all : {X : Type 0} (test : X → Bool) → ((x : X) → test x ≡ true) → (xs : List X) → filter test xs ≡ xs

@@ -13,3 +13,5 @@ pub mod Assembly
 pub mod FillLists
 pub mod FillDefined
 pub mod WellMade
+pub mod FillOwners
+pub mod Filling

@@ -1,10 +1,10 @@
 -- The game of a file is one: coordinates and rules of a player differ, each equation has one rule, and nothing is named beyond
 -- the coordinates.
-use Rattle.std.proofs.Common.{◌≡◌, ◌⊎◌, inl, inr, ℕ, zero, suc, ◌+◌, ◌<◌, ◌≤◌, ℤ, pos, ◌*ℤ◌, ◌<ℤ◌, int_div, unsigned_abs, Bool, true, false, not, ◌||◌, cond, nat_eq, List, [], ◌∷◌, ◌++◌, All, map, length, slice_index_or, Option, Some, None, arith, refl, sym, ap, ap₂, subst, ◌∙◌}
+use Rattle.std.proofs.Common.{◌≡◌, ◌⊎◌, inl, inr, ℕ, suc, ◌+◌, ◌<◌, ◌≤◌, ℤ, pos, ◌*ℤ◌, ◌<ℤ◌, int_div, unsigned_abs, Bool, true, false, not, ◌||◌, cond, nat_eq, List, [], ◌∷◌, ◌++◌, All, map, length, slice_index_or, Option, Some, None, arith, refl, sym, ap, ap₂, subst, ◌∙◌}
 use Rattle.std.specs.Prelude.{slice_get, ◌&&◌}
 use Rattle.std.specs.List.{list_any, filter, count_by}
 use Rattle.std.proofs.lemmas.Int.{unsigned_abs-mul}
-use Rattle.std.proofs.lemmas.Bool.{eq-eqb, and_left, and_right, and_parts, and_cases, or_parts, false≢true, cases_Bool, not-true, leb-false, true≢false, false_from_ne_true}
+use Rattle.std.proofs.lemmas.Bool.{or_parts, false≢true, cases_Bool, not-true, leb-false, false_from_ne_true}
 use Rattle.std.proofs.lemmas.Option.{same_Some, slice_get_within}
 use Rattle.std.proofs.lemmas.List.{length-map, length-append, ext_get_or, get_or-map, get_or_default}
 use Rattle.std.proofs.lemmas.List.Folds.{list_any_at}
@@ -14,19 +14,17 @@ use Rattle.std.proofs.Math.Nat.{dvd-mul_left}
 use Prim.Native.Nat.{◌∣◌}
 use Rattle.emp_algebra.specs.Vector.{cell}
 use Rattle.emp_algebra.proofs.Order.{cancel_right}
-use Rattle.emp_num.specs.Point.{Point}
 use Rattle.emp_num.proofs.Gcds.{quot_exact}
 use Rattle.emp_ast.specs.declared.tree.VarId.{VarId}
 use Rattle.emp_ast.specs.declared.tree.EquId.{EquId}
 use Rattle.emp_ast.specs.declared.model.Equation.{Equation}
 use Rattle.emp_ast.specs.declared.model.Relation.{Relation}
 use Rattle.emp_ast.specs.declared.model.Relation.TheVariants.{Equal}
-use Rattle.emp_ast.specs.declared.model.Sense.{Sense}
 use Rattle.emp_ast.specs.declared.model.Model.{Model}
 use Rattle.emp_ast.specs.declared.annot.Block.{Block}
 use Rattle.emp_ast.specs.declared.annot.Block.TheVariants.{Agent, Vi}
 use Rattle.emp_ast.specs.declared.annot.Annot.{Annot}
-use Rattle.emp_ast.specs.Parties.{Party, leader, block, names_variable, names_equation, is_dual, is_implicit_equation, block_variables, listed_equations, block_equations, block_owns, equations, equations_by, owns, block_objective, objective, is_defined_by, is_defined_of, is_defined, is_constraint, constraints}
+use Rattle.emp_ast.specs.Parties.{Party, leader, block, names_variable, names_equation, is_implicit_equation, block_variables, listed_equations, block_equations, block_owns, equations, equations_by, owns, block_objective, objective, is_defined_by, is_defined_of, is_defined, is_constraint, constraints}
 use Rattle.emp_ast.specs.Convex.{counted_by, counted}
 use Rattle.emp_form.specs.Form.{Form}
 use Rattle.emp_form.specs.Expansion.{form}
@@ -36,19 +34,19 @@ use Rattle.emp_owner.specs.Settled.{IsKept}
 use Rattle.emp_owner.proofs.Lists.{count_map}
 use Rattle.emp_game.specs.Game.{Row, Rule, Purpose, goal, flow, Player, names, AreApart, IsPurpose, IsPlayer}
 use Rattle.emp_game.proofs.Slopes.{eqb_refl}
-use Rattle.emp_split.specs.Games.{Leader, Game, coordinates, EachPlayer, dual_of, IsGame}
+use Rattle.emp_split.specs.Games.{Leader, Game, coordinates, dual_of, IsGame}
 use Rattle.emp_conditions.specs.Laws.{HasOneRule, IsLeader}
 use Rattle.emp_quantities.specs.Laws.{GoalIsShort}
 use Rattle.emp_agents.specs.Given.{difference}
-use Rattle.emp_problem.specs.Left.{left, place, range_of, leader_own, function_form, block_flow, goal_form}
-use Rattle.emp_problem.specs.GameOf.{IsRowOf, IsQuadraticOf, AreFlowsOf, IsPurposeOf, IsRuleOf, AreRulesOf, IsPlayerOf, IsLeaderOf, LeadsAs, IsGameOf}
+use Rattle.emp_problem.specs.Left.{left, place, leader_own, block_flow}
+use Rattle.emp_problem.specs.GameOf.{IsRowOf, AreFlowsOf, IsPurposeOf, IsRuleOf, AreRulesOf, IsPlayerOf, LeadsAs, IsGameOf}
 use Rattle.emp_problem.specs.Class.{BlockFits, IsClassFile, VariablesFit}
-use Rattle.emp_meaning.specs.Laws.{IsWellMade}
-use Rattle.emp_meaning.specs.Ties.{left_at, IsParty, Places}
+use Rattle.emp_meaning.specs.Laws.{IsWellMade, GamesAreWellMade}
+use Rattle.emp_meaning.specs.Ties.{left_at, Places}
 use Rattle.emp_meaning.proofs.Move.{block_fits, range_count}
 use Rattle.emp_meaning.proofs.MoveGame.{each_player}
-use Rattle.emp_meaning.proofs.PriceLists.{equations_below, Listed, EachListed, constraints_listed, there_is}
-use Rattle.emp_meaning.proofs.FillLists.{not_here, count_none, count_filter, filter_all, all_filter_with, named_map, Tells, apart_map}
+use Rattle.emp_meaning.proofs.PriceLists.{equations_below, EachListed, constraints_listed}
+use Rattle.emp_meaning.proofs.FillLists.{not_here, count_none, count_filter, filter_all, all_filter_with, named_map, apart_map}
 use Rattle.emp_meaning.proofs.FillDefined.{dual_is_left}
 
 -- ---- the rules of ownership
@@ -322,3 +320,6 @@ module _ (n : ℤ) (m : Model) (a : Annot) (g : Game) (class : IsClassFile m a) 
     leader = (leads a.bilevel g.leader refl game.leads).0;
     goal = (leads a.bilevel g.leader refl game.leads).1;
   }
+
+pub games_are_well_made : ((m : Model) (a : Annot) → IsClassFile m a → Places m a) → GamesAreWellMade
+games_are_well_made places n m a g class game = well_made n m a g class game (places m a class)
