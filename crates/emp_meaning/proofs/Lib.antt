@@ -10,3 +10,4 @@ pub mod Multipliers
 pub mod Prices
 pub mod Leading
 pub mod Assembly
+pub mod PriceGames
