@@ -79,10 +79,10 @@ apart_once f (x ∷ xs) h = (
   where
     go : (names (map f xs) (f x) ≡ true) ⊎ (names (map f xs) (f x) ≡ false) → names (map f xs) (f x) ≡ false
     go (inl s) = absurd (
-      let l = h (f x) (or_second (nat_eq (f x) (f x)) (names (map f xs) (f x)) s) in
-      let k = named_stands f xs (f x) s in
-      let e : standings f (x ∷ xs) (f x) ≡ 1 + standings f xs (f x) = counted_more (λ y. nat_eq (f y) (f x)) x xs true (eqb_refl (f x)) in
-      omega arith)
+        let l = h (f x) (or_second (nat_eq (f x) (f x)) (names (map f xs) (f x)) s) in
+        let k = named_stands f xs (f x) s in
+        let e : standings f (x ∷ xs) (f x) ≡ 1 + standings f xs (f x) = counted_more (λ y. nat_eq (f y) (f x)) x xs true (eqb_refl (f x)) in
+        omega arith)
     go (inr s) = s
 
 names_less : {X : Type 0} (f : X → ℕ) (p : X → Bool) (xs : List X) (v : ℕ) → names (map f (filter p xs)) v ≡ true → names (map f xs) v ≡ true
@@ -317,9 +317,9 @@ difference_above m a class e q at = let sides = class.expanded e q at in (entry_
 
 rule_is : (n : ℤ) (m : Model) (a : Annot) (vs : List ℕ) (k : Party) → IsClassFile m a → (e : ℕ) (r : Rule) → IsRuleOf n m vs e r → Listed m a k e → r ≡ rule_by n m vs r.equation
 rule_is n m a vs k class e r h l = subst (λ i. r ≡ rule_by n m vs i) (sym h.equation) (rule_eq r (rule_by n m vs e) h.equation
-  (h.relation q l.at ∙ ap relation_by (sym l.at))
-  (exact_quotient r.row.constant (n *ℤ f.constant) f.den above row.constant ∙ ap (λ o. (row_by n vs o).constant) (sym l.at))
-  (cells_are (λ v. int_div (n *ℤ f.linear v) f.den) vs r.row.cells row.count (λ i s. exact_quotient (cell r.row.cells i) (n *ℤ f.linear (slice_index_or vs i 0)) f.den above (row.each i s)) ∙ ap (λ o. (row_by n vs o).cells) (sym l.at)))
+    (h.relation q l.at ∙ ap relation_by (sym l.at))
+    (exact_quotient r.row.constant (n *ℤ f.constant) f.den above row.constant ∙ ap (λ o. (row_by n vs o).constant) (sym l.at))
+    (cells_are (λ v. int_div (n *ℤ f.linear v) f.den) vs r.row.cells row.count (λ i s. exact_quotient (cell r.row.cells i) (n *ℤ f.linear (slice_index_or vs i 0)) f.den above (row.each i s)) ∙ ap (λ o. (row_by n vs o).cells) (sym l.at)))
   where
     q : Equation
     q = l.equation
@@ -373,9 +373,9 @@ module _ (n : ℤ) (m : Model) (a : Annot) (g : Game) (class : IsClassFile m a) 
   own_apart k b at =
       apart_through (λ v. v.at) (place m a) (counted m a k)
       (λ u v s w e.
-          let x = counted_left k b at u s in
-          let y = counted_left k b at v w in
-          sym (places.placed u x.0 x.1).1 ∙ (ap (left_at m a) e ∙ (places.placed v y.0 y.1).1))
+      let x = counted_left k b at u s in
+      let y = counted_left k b at v w in
+      sym (places.placed u x.0 x.1).1 ∙ (ap (left_at m a) e ∙ (places.placed v y.0 y.1).1))
       (subst (λ o. AreApart (map (λ v. v.at) (counted_by m a k o))) (sym at) (apart_filter (λ v. v.at) (λ v. not (is_defined_of m a (block k) v.at)) (block_variables b) (variables_apart m a class k b at)))
 
   own_below : (k : ℕ) (b : Block) → slice_get a.blocks k ≡ Some b → (i : ℕ) → names (map (λ v. place m a v.at) (counted m a k)) i ≡ true → i < coordinates g
@@ -395,11 +395,11 @@ module _ (n : ℤ) (m : Model) (a : Annot) (g : Game) (class : IsClassFile m a) 
   purpose_kept k (Vi zeros pairs equs) (goal q) own at h o = absurd h
   purpose_kept k (Vi zeros pairs equs) (flow fs) own at h o = (
     flows_count n m (left m a) (block_flow (Vi zeros pairs equs)) fs h
-    ∙ (length-append (map (λ z. None) zeros) (map (λ q. Some q.0.at) pairs)
-    ∙ (ap₂ (λ x y. x + y) (length-map zeros (λ z. None) ∙ refl) (length-map pairs (λ q. Some q.0.at) ∙ sym (length-map pairs (λ q. q.1)))
-    ∙ (sym (length-append zeros (map (λ q. q.1) pairs))
-    ∙ (ap length (sym (counted_flow m a k zeros pairs equs at))
-    ∙ (sym (length-map (counted m a k) (λ v. place m a v.at)) ∙ ap length (sym o)))))),
+        ∙ (length-append (map (λ z. None) zeros) (map (λ q. Some q.0.at) pairs)
+        ∙ (ap₂ (λ x y. x + y) (length-map zeros (λ z. None) ∙ refl) (length-map pairs (λ q. Some q.0.at) ∙ sym (length-map pairs (λ q. q.1)))
+        ∙ (sym (length-append zeros (map (λ q. q.1) pairs))
+        ∙ (ap length (sym (counted_flow m a k zeros pairs equs at))
+        ∙ (sym (length-map (counted m a k) (λ v. place m a v.at)) ∙ ap length (sym o)))))),
     flows_short n m (coordinates g) (left m a) (let c = count_is in omega arith) (block_flow (Vi zeros pairs equs)) fs h,
   )
 
