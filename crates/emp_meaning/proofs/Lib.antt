@@ -10,4 +10,3 @@ pub mod Multipliers
 pub mod Prices
 pub mod Leading
 pub mod Assembly
-pub mod PriceGames
