@@ -10,3 +10,6 @@ pub mod Multipliers
 pub mod Prices
 pub mod Leading
 pub mod Assembly
+pub mod FillLists
+pub mod FillDefined
+pub mod WellMade
