@@ -75,13 +75,13 @@ names_map f (u ∷ vs) v h = go (decided (nat_eq u v)) (λ s. names_map f vs v s
     go (inr s) rest = or_second (nat_eq (f u) (f v)) (names (map f vs) (f v)) (rest (sym (ap (λ b. b || names vs v) s) ∙ h))
 
 -- a place that is named is that of a variable of the list that passes
-record Chosen (f : ℕ → ℕ) (test : ℕ → Bool) (vs : List ℕ) (i : ℕ) : Type 0 where
-  variable : ℕ
-  there : names vs variable ≡ true
-  passes : test variable ≡ true
-  is : f variable ≡ i
+pub record Chosen (f : ℕ → ℕ) (test : ℕ → Bool) (vs : List ℕ) (i : ℕ) : Type 0 where
+  pub variable : ℕ
+  pub there : names vs variable ≡ true
+  pub passes : test variable ≡ true
+  pub is : f variable ≡ i
 
-chosen : (f : ℕ → ℕ) (test : ℕ → Bool) (vs : List ℕ) (i : ℕ) → names (map f (filter test vs)) i ≡ true → Chosen f test vs i
+pub chosen : (f : ℕ → ℕ) (test : ℕ → Bool) (vs : List ℕ) (i : ℕ) → names (map f (filter test vs)) i ≡ true → Chosen f test vs i
 chosen f test [] i h = absurd (false≢true h)
 chosen f test (u ∷ vs) i h = go (decided (test u)) (λ s. chosen f test vs i s)
   where
@@ -96,7 +96,7 @@ chosen f test (u ∷ vs) i h = go (decided (test u)) (λ s. chosen f test vs i s
         by_name (inl w) k = record { variable = u; there = or_first (nat_eq u u) (names vs u) (eqb_refl u); passes = s; is = eqb-true (f u) i w }
         by_name (inr w) k = later (rest (sym (ap (λ b. b || names (map f (filter test vs)) i) w) ∙ k))
 
-placed_in : (vs : List ℕ) (v : ℕ) → names vs v ≡ true → (place_in vs v < length vs) × (slice_index_or vs (place_in vs v) 0 ≡ v)
+pub placed_in : (vs : List ℕ) (v : ℕ) → names vs v ≡ true → (place_in vs v < length vs) × (slice_index_or vs (place_in vs v) 0 ≡ v)
 placed_in [] v h = absurd (false≢true h)
 placed_in (u ∷ vs) v h = go (decided (nat_eq u v)) (λ s. placed_in vs v s)
   where

@@ -285,7 +285,7 @@ all_counted m a k h [] = refl
 all_counted m a k h (v ∷ vs) =
     ap (λ c. cond (not c) (v ∷ filter (λ x. not (is_defined_of m a k x.at)) vs) (filter (λ x. not (is_defined_of m a k x.at)) vs)) (not_defined m a k v.at h) ∙ ap (λ (xs : List VarId). v ∷ xs) (all_counted m a k h vs)
 
-counted_flow : (m : Model) (a : Annot) (k : ℕ) (zeros : List VarId) (pairs : List (EquId × VarId)) (equs : List EquId) → slice_get a.blocks k ≡ Some (Vi zeros pairs equs) → counted m a k ≡ zeros ++ map (λ q. q.1) pairs
+pub counted_flow : (m : Model) (a : Annot) (k : ℕ) (zeros : List VarId) (pairs : List (EquId × VarId)) (equs : List EquId) → slice_get a.blocks k ≡ Some (Vi zeros pairs equs) → counted m a k ≡ zeros ++ map (λ q. q.1) pairs
 counted_flow m a k zeros pairs equs at = ap (counted_by m a k) at ∙ all_counted m a (block k) (ap block_objective at) (zeros ++ map (λ q. q.1) pairs)
 
 flow_stays : (m : Model) (a : Annot) (k v : ℕ) → Places m a → k < length a.blocks → objective m a (block k) ≡ None → v < length m.variables → owns m a (block k) v ≡ true → is_defined m a v ≡ false

@@ -140,14 +140,14 @@ duals_name m a (d ∷ ds) e = go (decided (nat_eq d.1.at e)) (duals_name m a ds 
     go (inl s) rest = ap (λ b. is_some (cond b (Some (place m a d.0.at)) (dual_of (dual_pairs m a ds) e))) s ∙ sym (ap (λ b. b || list_any (λ x. nat_eq x.1.at e) ds) s)
     go (inr s) rest = ap (λ b. is_some (cond b (Some (place m a d.0.at)) (dual_of (dual_pairs m a ds) e))) s ∙ (rest ∙ sym (ap (λ b. b || list_any (λ x. nat_eq x.1.at e) ds) s))
 
-record DualFound (m : Model) (a : Annot) (ds : List (VarId × EquId)) (e k : ℕ) : Type 0 where
-  index : ℕ
-  pair : VarId × EquId
-  at : slice_get ds index ≡ Some pair
-  equation : pair.1.at ≡ e
-  coordinate : k ≡ place m a pair.0.at
+pub record DualFound (m : Model) (a : Annot) (ds : List (VarId × EquId)) (e k : ℕ) : Type 0 where
+  pub index : ℕ
+  pub pair : VarId × EquId
+  pub at : slice_get ds index ≡ Some pair
+  pub equation : pair.1.at ≡ e
+  pub coordinate : k ≡ place m a pair.0.at
 
-dual_found : (m : Model) (a : Annot) (ds : List (VarId × EquId)) (e k : ℕ) → dual_of (dual_pairs m a ds) e ≡ Some k → DualFound m a ds e k
+pub dual_found : (m : Model) (a : Annot) (ds : List (VarId × EquId)) (e k : ℕ) → dual_of (dual_pairs m a ds) e ≡ Some k → DualFound m a ds e k
 dual_found m a [] e k h = absurd (false≢true (ap is_some h))
 dual_found m a (d ∷ ds) e k h = go (decided (nat_eq d.1.at e)) (λ s. dual_found m a ds e k s)
   where
@@ -165,10 +165,10 @@ dual_found m a (d ∷ ds) e k h = go (decided (nat_eq d.1.at e)) (λ s. dual_fou
         later f = record { index = suc f.index; pair = f.pair; at = f.at; equation = f.equation; coordinate = f.coordinate }
 
 -- an equation with one dual variable has it by its first pair
-counted_more : {X : Type 0} (test : X → Bool) (x : X) (xs : List X) (b : Bool) → test x ≡ b → count_by test (x ∷ xs) ≡ cond b 1 0 + count_by test xs
+pub counted_more : {X : Type 0} (test : X → Bool) (x : X) (xs : List X) (b : Bool) → test x ≡ b → count_by test (x ∷ xs) ≡ cond b 1 0 + count_by test xs
 counted_more test x xs b h = sum_by-cons (λ y. cond (test y) 1 0) x xs ∙ ap (λ c. cond c 1 0 + count_by test xs) h
 
-counted_once : {X : Type 0} (test : X → Bool) (xs : List X) (i : ℕ) (x : X) → slice_get xs i ≡ Some x → test x ≡ true → 1 ≤ count_by test xs
+pub counted_once : {X : Type 0} (test : X → Bool) (xs : List X) (i : ℕ) (x : X) → slice_get xs i ≡ Some x → test x ≡ true → 1 ≤ count_by test xs
 counted_once test [] i x at t = absurd (let l = slice_get_within [] i x at in omega arith)
 counted_once test (y ∷ xs) zero x at t = let e : count_by test (y ∷ xs) ≡ 1 + count_by test xs = counted_more test y xs true (ap test (same_Some y x at) ∙ t) in omega arith
 counted_once test (y ∷ xs) (suc i) x at t =
