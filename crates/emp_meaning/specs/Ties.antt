@@ -35,7 +35,7 @@ IsParty a leader = a.bilevel ≡ true
 IsParty a (block k) = k < length a.blocks
 
 pub record Places (m : Model) (a : Annot) : Type 0 where
-  pub place : (v : ℕ) → v < length m.variables → is_defined m a v ≡ false → (place m a v < length (left m a)) × (left_at m a (place m a v) ≡ v)
+  pub placed : (v : ℕ) → v < length m.variables → is_defined m a v ≡ false → (place m a v < length (left m a)) × (left_at m a (place m a v) ≡ v)
   pub at : (i : ℕ) → i < length (left m a) → (left_at m a i < length m.variables) × (is_defined m a (left_at m a i) ≡ false) × (place m a (left_at m a i) ≡ i)
   -- a defined objective that a party owns is its own objective
   pub own : (k : Party) (v : ℕ) → IsParty a k → v < length m.variables → owns m a k v ≡ true → is_defined m a v ≡ true → is_defined_of m a k v ≡ true
