@@ -1,0 +1,3 @@
+pub mod TieLists
+pub mod Places
+pub mod Owners
