@@ -1,3 +1,6 @@
+pub mod TieLists
+pub mod Places
+pub mod Owners
 pub mod MovePoints
 pub mod Move
 pub mod Deviations
