@@ -3,7 +3,7 @@
 use Rattle.std.proofs.Common.{◌≡◌, ℕ, zero, suc, ◌<◌, ℤ, pos, ◌*ℤ◌, ◌<ℤ◌, true, false, cond, nat_eq, List, [], ◌∷◌, map, length, slice_index_or, Option, Some, None, arith, refl, sym, ap, ap₂, subst, ◌∙◌}
 use Rattle.std.specs.Prelude.{slice_get, ◌&&◌}
 use Rattle.std.proofs.lemmas.Int.{ints}
-use Rattle.std.proofs.lemmas.Bool.{eq-eqb, and_from, and_parts, or_right, false≢true, cond-true, cond-false, cond_both}
+use Rattle.std.proofs.lemmas.Bool.{eq-eqb, and_from, and_parts, false≢true, cond-true, cond-false, cond_both}
 use Rattle.std.proofs.lemmas.Option.{same_Some}
 use Rattle.std.proofs.lemmas.List.{length-map, ext_get_or, get_or-map}
 use Rattle.std.proofs.lemmas.List.Elements.{All-map}
@@ -25,7 +25,7 @@ use Rattle.emp_ast.specs.declared.annot.Block.{Block}
 use Rattle.emp_ast.specs.declared.annot.Block.TheVariants.{Agent, Vi}
 use Rattle.emp_ast.specs.declared.annot.Annot.{Annot}
 use Rattle.emp_ast.specs.Meets.{MeetsEquation}
-use Rattle.emp_ast.specs.Parties.{Party, leader, block, equations, objective, block_objective, goal_objective, can_define, has_alone, defines_by, defines, is_defined_by, is_defined_of, some_block_defines, is_defined, EachDefinition}
+use Rattle.emp_ast.specs.Parties.{Party, leader, block, equations, objective, block_objective, goal_objective, can_define, has_alone, defines_by, defines, is_defined_by, is_defined_of, is_defined, EachDefinition}
 use Rattle.emp_form.specs.Form.{Form}
 use Rattle.emp_left.specs.Left.{upper, quadratic_left}
 use Rattle.emp_agents.specs.Given.{given_for, given_form, definition}
@@ -34,10 +34,11 @@ use Rattle.emp_game.specs.Conditions.{row_of}
 use Rattle.emp_problem.specs.Left.{left, place, signed, signed_for, goal_form}
 use Rattle.emp_problem.specs.GameOf.{IsQuadraticOf}
 use Rattle.emp_problem.specs.Class.{IsClassFile}
-use Rattle.emp_meaning.specs.Laws.{left_nums, Filled, CoordinatesFill}
+use Rattle.emp_meaning.specs.Laws.{left_nums, Filled}
 use Rattle.emp_meaning.specs.Ties.{left_at, IsParty, Places, signed_ratio, Values}
 use Rattle.emp_meaning.proofs.MovePoints.{HasCoordinates, with_coordinates}
-use Rattle.emp_meaning.proofs.Move.{block_fits, scaled_same, left_count, left_cell, named_passes, defines_own, defined_among}
+use Rattle.emp_meaning.proofs.Move.{block_fits, scaled_same, left_count, left_cell, named_passes, defines_own}
+use Rattle.emp_meaning.proofs.Places.{party_defines}
 use Rattle.emp_meaning.proofs.Deviations.{signed_above, signed_turned, value_level}
 use Rattle.emp_meaning.proofs.FillOwners.{chosen, chosen_is}
 
@@ -84,10 +85,6 @@ defines_party m a leader w e is h =
     let named = (and_parts (can_define m a e w.1) (has_alone m a leader e) by).1 in
     let some = named_passes (λ i. defines m a leader i) (equations m a leader) e named h in
     subst (λ o. is_defined_by m a leader w.1 o ≡ true) (sym is) (and_from (nat_eq w.1 w.1) _ (eq-eqb w.1 w.1 refl) some)
-
-defined_party : (m : Model) (a : Annot) (k : Party) (v : ℕ) → IsParty a k → is_defined_of m a k v ≡ true → is_defined m a v ≡ true
-defined_party m a (block k) v party h = defined_among m a v k party h
-defined_party m a leader v party h = or_right (some_block_defines m a v (length a.blocks)) (a.bilevel && is_defined_of m a leader v) (and_from a.bilevel (is_defined_of m a leader v) party h)
 
 -- an objective is a variable of the model
 pub objective_within : (m : Model) (a : Annot) (k : Party) (w : Sense × ℕ) → IsClassFile m a → objective m a k ≡ Some w → w.1 < length m.variables
@@ -148,7 +145,7 @@ module _ (m : Model) (a : Annot) (class : IsClassFile m a) (places : Places m a)
 
   fraction_given : (d : ℤ) (xs : List ℤ) (k : Party) (s : Sense) (v : ℕ) → IsParty a k → v < length m.variables → objective m a k ≡ Some (s, v) → is_defined_of m a k v ≡ true → fraction d xs v ≡ signed_ratio s (value_over k d xs)
   fraction_given d xs k s v party l is h =
-      cond-true (is_defined m a v) (given_value (party_of v) d xs) (ratio (cell xs (place m a v)) d) (defined_party m a k v party h)
+      cond-true (is_defined m a v) (given_value (party_of v) d xs) (ratio (cell xs (place m a v)) d) (party_defines m a k v party h)
       ∙ (ap (λ j. given_value j d xs) (chosen_is m a k v class.kept l party h) ∙ ap (λ o. signed_by o (value_over k d xs)) is)
 
   -- ---- the point
@@ -208,6 +205,3 @@ module _ (m : Model) (a : Annot) (class : IsClassFile m a) (places : Places m a)
     where
       c : Full d xs
       c = with_coordinates (fraction d xs) (length m.variables) d above (λ v l. fraction_above d xs v above)
-
-pub coordinates_fill : ((m : Model) (a : Annot) → IsClassFile m a → Places m a) → ((n : ℤ) (m : Model) (a : Annot) → IsClassFile m a → pos 0 <ℤ n → Values n m a) → CoordinatesFill
-coordinates_fill places values m a d xs class above count = fills m a class (places m a class) (λ n h. values n m a class h) d xs above count

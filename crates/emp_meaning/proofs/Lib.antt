@@ -14,7 +14,6 @@ pub mod Prices
 pub mod Leading
 pub mod Assembly
 pub mod FillLists
-pub mod FillDefined
 pub mod WellMade
 pub mod FillOwners
 pub mod Filling

@@ -9,7 +9,7 @@ use Rattle.std.proofs.lemmas.Option.{same_Some, slice_get_within}
 use Rattle.std.proofs.lemmas.List.{length-map, length-append, ext_get_or, get_or-map, get_or_default}
 use Rattle.std.proofs.lemmas.List.Folds.{list_any_at}
 use Rattle.std.proofs.lemmas.List.Sums.{sum_by-append}
-use Rattle.std.proofs.lemmas.List.Elements.{All-nil, All-cons, All-head, All-tail, All-filter, All-weaker, All-append, All-map}
+use Rattle.std.proofs.lemmas.List.Elements.{All-nil, All-cons, All-head, All-tail, All-filter, All-weaker}
 use Rattle.std.proofs.Math.Nat.{dvd-mul_left}
 use Prim.Native.Nat.{◌∣◌}
 use Rattle.emp_algebra.specs.Vector.{cell}
@@ -40,14 +40,16 @@ use Rattle.emp_quantities.specs.Laws.{GoalIsShort}
 use Rattle.emp_agents.specs.Given.{difference}
 use Rattle.emp_problem.specs.Left.{left, place, leader_own, block_flow}
 use Rattle.emp_problem.specs.GameOf.{IsRowOf, AreFlowsOf, IsPurposeOf, IsRuleOf, AreRulesOf, IsPlayerOf, LeadsAs, IsGameOf}
-use Rattle.emp_problem.specs.Class.{BlockFits, IsClassFile, VariablesFit}
-use Rattle.emp_meaning.specs.Laws.{IsWellMade, GamesAreWellMade}
+use Rattle.emp_problem.specs.Class.{IsClassFile}
+use Rattle.emp_meaning.specs.Laws.{IsWellMade}
 use Rattle.emp_meaning.specs.Ties.{left_at, Places}
 use Rattle.emp_meaning.proofs.Move.{block_fits, range_count}
 use Rattle.emp_meaning.proofs.MoveGame.{each_player}
-use Rattle.emp_meaning.proofs.PriceLists.{equations_below, EachListed, constraints_listed}
-use Rattle.emp_meaning.proofs.FillLists.{not_here, count_none, count_filter, filter_all, all_filter_with, named_map, apart_map}
-use Rattle.emp_meaning.proofs.FillDefined.{dual_is_left}
+use Rattle.emp_meaning.proofs.PriceLists.{all_here, equations_below, EachListed, constraints_listed}
+use Rattle.emp_meaning.proofs.Prices.{dual_left}
+use Rattle.emp_meaning.proofs.TieLists.{map_source}
+use Rattle.emp_meaning.proofs.Owners.{block_fit, player_owners}
+use Rattle.emp_meaning.proofs.FillLists.{not_here, count_none, count_filter, filter_all, all_filter_with, apart_map}
 
 -- ---- the rules of ownership
 pub variable_once : (m : Model) (a : Annot) (k : ℕ) (b : Block) (v : ℕ) → IsKept m a → slice_get a.blocks k ≡ Some b → v < length m.variables → variable_times v (block_variables b) < 2
@@ -189,24 +191,21 @@ module _ (n : ℤ) (m : Model) (a : Annot) (g : Game) (class : IsClassFile m a) 
   place_tells v w h k e = sym (places.placed v h.0 h.1).1 ∙ (ap (left_at m a) e ∙ (places.placed w k.0 k.1).1)
 
   -- ---- own coordinates
-  own_below : (b : Block) → BlockFits (length m.variables) (length m.equations) b → VariablesFit (length m.variables) (block_variables b)
-  own_below (Agent sense objective vars equs) h = All-cons (λ v. v.at < length m.variables) objective vars h.0 h.1
-  own_below (Vi zeros pairs equs) h = All-append (λ v. v.at < length m.variables) zeros (map (λ q. q.1) pairs) h.0 (All-map (λ v. v.at < length m.variables) (λ q. q.1) pairs (All-weaker (λ q. (q.0.at < length m.equations) × (q.1.at < length m.variables)) (λ q. q.1.at < length m.variables) (λ q w. w.1) pairs h.1))
-
   counted_is : (k : ℕ) (b : Block) → slice_get a.blocks k ≡ Some b → counted m a k ≡ filter (λ v. not (is_defined_of m a (block k) v.at)) (block_variables b)
   counted_is k b at = ap (counted_by m a k) at
 
   counted_left : (k : ℕ) (b : Block) → slice_get a.blocks k ≡ Some b → All (λ v. IsLeft v.at) (counted m a k)
   counted_left k b at =
       subst (λ vs. All (λ v. IsLeft v.at) vs) (sym (counted_is k b at))
-      (all_filter_with (λ v. not (is_defined_of m a (block k) v.at)) (λ v. (v.at < length m.variables) × (names_variable (block_variables b) v.at ≡ true)) (λ v. IsLeft v.at) one (block_variables b)
-      (λ i d l. (own_below b (block_fits m a k b class at) i d l, list_any_at (λ x. nat_eq x.at (slice_index_or (block_variables b) i d).at) (block_variables b) i d l (eqb_refl (slice_index_or (block_variables b) i d).at))))
+      (all_filter_with (λ v. not (is_defined_of m a (block k) v.at)) (λ v. names_variable (block_variables b) v.at ≡ true) (λ v. IsLeft v.at) one (block_variables b)
+      (λ i d l. list_any_at (λ x. nat_eq x.at (slice_index_or (block_variables b) i d).at) (block_variables b) i d l (eqb_refl (slice_index_or (block_variables b) i d).at)))
     where
-      one : (v : VarId) → (v.at < length m.variables) × (names_variable (block_variables b) v.at ≡ true) → not (is_defined_of m a (block k) v.at) ≡ true → IsLeft v.at
-      one v h t = (
-        h.0,
-        false_from_ne_true (is_defined m a v.at) (λ s. false≢true (sym (not-true (is_defined_of m a (block k) v.at) t) ∙ places.own (block k) v.at (slice_get_within a.blocks k b at) h.0 (ap (λ o. block_owns o v.at) at ∙ h.1) s)),
-      )
+      one : (v : VarId) → names_variable (block_variables b) v.at ≡ true → not (is_defined_of m a (block k) v.at) ≡ true → IsLeft v.at
+      one v h t =
+          let l = block_fit (length m.variables) (length m.equations) b v.at (block_fits m a k b class at) h in (
+            l,
+            false_from_ne_true (is_defined m a v.at) (λ s. false≢true (sym (not-true (is_defined_of m a (block k) v.at) t) ∙ places.own (block k) v.at (slice_get_within a.blocks k b at) l (ap (λ o. block_owns o v.at) at ∙ h) s)),
+          )
 
   own_apart : (k : ℕ) (b : Block) → slice_get a.blocks k ≡ Some b → AreApart (map (λ v. place m a v.at) (counted m a k))
   own_apart k b at =
@@ -248,7 +247,7 @@ module _ (n : ℤ) (m : Model) (a : Annot) (g : Game) (class : IsClassFile m a) 
 
   player_fits : (k : ℕ) (b : Block) (pl : Player) → slice_get a.blocks k ≡ Some b → IsPlayerOf n m a k b pl → IsPlayer (coordinates g) pl
   player_fits k b pl at of = record {
-    below = λ i h. named_map (λ v. place m a v.at) (λ j. j < coordinates g) (counted m a k) i (All-weaker (λ v. IsLeft v.at) (λ v. place m a v.at < coordinates g) (λ v l. place_below v.at l) (counted m a k) (counted_left k b at)) (ap (λ own. names own i) (sym of.own) ∙ h);
+    below = λ i h. let l = (player_owners n m a class k b pl at of).below i h in let c = count in omega (arith, l, c);
     apart = subst AreApart (sym of.own) (own_apart k b at);
     purpose = purpose_fits k b pl.purpose pl.own at (ap length of.own ∙ length-map (counted m a k) (λ v. place m a v.at)) of.purpose;
     rules = rules_short n m a (block k) (coordinates g) count (constraints m a (block k)) pl.rules (listed k b at) of.rules;
@@ -284,7 +283,7 @@ module _ (n : ℤ) (m : Model) (a : Annot) (g : Game) (class : IsClassFile m a) 
   duals_left : All (λ d. IsLeft d.0.at) a.duals
   duals_left i d l = (
     (class.fits.duals i d l).0,
-    dual_is_left m a (slice_index_or a.duals i d).0.at (list_any_at (λ x. nat_eq x.0.at (slice_index_or a.duals i d).0.at) a.duals i d l (eqb_refl (slice_index_or a.duals i d).0.at)),
+    dual_left m a (slice_index_or a.duals i d).0.at (list_any_at (λ x. nat_eq x.0.at (slice_index_or a.duals i d).0.at) a.duals i d l (eqb_refl (slice_index_or a.duals i d).0.at)),
   )
 
   is_game : IsGame g
@@ -304,7 +303,9 @@ module _ (n : ℤ) (m : Model) (a : Annot) (g : Game) (class : IsClassFile m a) 
   leads : (b : Bool) (o : Option Leader) → a.bilevel ≡ b → LeadsAs n m a b o → IsLeader (coordinates g) o × GoalIsShort (coordinates g) o
   leads true (Some l) at of = (
     (
-      λ i h. named_map (place m a) (λ j. j < coordinates g) (leader_own m a) i (All-weaker IsLeft (λ v. place m a v < coordinates g) place_below (leader_own m a) leader_left) (ap (λ own. names own i) (sym of.own) ∙ h),
+      λ i h.
+          let s = map_source (place m a) (leader_own m a) i (ap (λ own. names own i) (sym of.own) ∙ h) in
+          subst (λ j. j < coordinates g) s.is (place_below s.entry (all_here IsLeft (leader_own m a) s.index s.entry s.at leader_left)),
       rules_short n m a leader (coordinates g) count (constraints m a leader) l.rules (constraints_listed m a class leader at) of.rules,
     ),
     let c = count in let cells = of.goal.count in omega (arith, c, cells),
@@ -320,6 +321,3 @@ module _ (n : ℤ) (m : Model) (a : Annot) (g : Game) (class : IsClassFile m a) 
     leader = (leads a.bilevel g.leader refl game.leads).0;
     goal = (leads a.bilevel g.leader refl game.leads).1;
   }
-
-pub games_are_well_made : ((m : Model) (a : Annot) → IsClassFile m a → Places m a) → GamesAreWellMade
-games_are_well_made places n m a g class game = well_made n m a g class game (places m a class)
