@@ -1,5 +1,5 @@
 -- What solves a file solves its game, and the other way.
-use Rattle.std.proofs.Common.{◌≡◌, ◌↔◌, ℕ, ◌<◌, ℤ, ◌*ℤ◌, Bool, true, false, length, Option, Some, None, refl, sym, ap, subst, ◌∙◌}
+use Rattle.std.proofs.Common.{◌≡◌, ◌↔◌, ℕ, ◌<◌, ℤ, pos, ◌*ℤ◌, ◌<ℤ◌, Bool, true, false, length, Option, Some, None, refl, sym, ap, subst, ◌∙◌}
 use Rattle.std.specs.Prelude.{slice_get}
 use Rattle.std.proofs.lemmas.Bool.{false≢true}
 use Rattle.std.proofs.lemmas.Option.{slice_get_within}
@@ -21,7 +21,11 @@ use Rattle.emp_split.specs.Games.{Leader, Game, coordinates, EachPlayer}
 use Rattle.emp_split.specs.Meaning.{LeaderObeys, IsAdmissible, IsBetter}
 use Rattle.emp_problem.specs.GameOf.{IsPlayerOf, IsGameOf}
 use Rattle.emp_problem.specs.Class.{IsClassFile, SolvesBy, SolvesFile, MeetsDefinitions}
-use Rattle.emp_meaning.specs.Laws.{left_nums}
+use Rattle.emp_meaning.specs.Laws.{left_nums, GamesAreWellMade}
+use Rattle.emp_meaning.specs.Ties.{Values}
+use Rattle.emp_meaning.proofs.Places.{places}
+use Rattle.emp_meaning.proofs.Owners.{player_owners}
+use Rattle.emp_meaning.proofs.WellMade.{well_made}
 use Rattle.emp_meaning.proofs.Move.{left_count, range_count}
 use Rattle.emp_meaning.proofs.MoveGame.{all_solved_down, all_solved_up}
 use Rattle.emp_meaning.proofs.Prices.{AreTied, Priced, prices_down, prices_up}
@@ -84,3 +88,7 @@ pub orders_are_one : (n : ℤ) (m : Model) (a : Annot) (g : Game) → AreTied n 
 orders_are_one n m a g t s p q f fq def defq =
     let x = led n m a g s t.game.leads in
     subst (λ o. IsBetter o p.den (left_nums m a p) q.den (left_nums m a q) ↔ IsBetterForLeader m a p q) (sym x.at) (better_same n m a g t s x.led x.is p q f fq (def.leads s) (defq.leads s))
+
+-- ---- the laws
+pub games_are_well_made : GamesAreWellMade
+games_are_well_made n m a g class game = well_made n m a g class game (places m a class)
