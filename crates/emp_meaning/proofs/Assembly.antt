@@ -21,11 +21,12 @@ use Rattle.emp_split.specs.Games.{Leader, Game, coordinates, EachPlayer}
 use Rattle.emp_split.specs.Meaning.{LeaderObeys, IsAdmissible, IsBetter}
 use Rattle.emp_problem.specs.GameOf.{IsPlayerOf, IsGameOf}
 use Rattle.emp_problem.specs.Class.{IsClassFile, SolvesBy, SolvesFile, MeetsDefinitions}
-use Rattle.emp_meaning.specs.Laws.{left_nums, GamesAreWellMade}
-use Rattle.emp_meaning.specs.Ties.{Values}
+use Rattle.emp_meaning.specs.Laws.{left_nums, GameSolvesFile, FileSolvesGame, OrdersAgree, CoordinatesFill, GamesAreWellMade}
 use Rattle.emp_meaning.proofs.Places.{places}
 use Rattle.emp_meaning.proofs.Owners.{player_owners}
+use Rattle.emp_meaning.proofs.Values.{values}
 use Rattle.emp_meaning.proofs.WellMade.{well_made}
+use Rattle.emp_meaning.proofs.Filling.{fills}
 use Rattle.emp_meaning.proofs.Move.{left_count, range_count}
 use Rattle.emp_meaning.proofs.MoveGame.{all_solved_down, all_solved_up}
 use Rattle.emp_meaning.proofs.Prices.{AreTied, Priced, prices_down, prices_up}
@@ -90,5 +91,20 @@ orders_are_one n m a g t s p q f fq def defq =
     subst (λ o. IsBetter o p.den (left_nums m a p) q.den (left_nums m a q) ↔ IsBetterForLeader m a p q) (sym x.at) (better_same n m a g t s x.led x.is p q f fq (def.leads s) (defq.leads s))
 
 -- ---- the laws
+tied_game : (n : ℤ) (m : Model) (a : Annot) (g : Game) → IsClassFile m a → IsGameOf n m a g → AreTied n m a g
+tied_game n m a g class game = record { class = class; game = game; places = places m a class; values = values n m a class game.positive; owners = λ k b pl at of. player_owners n m a class k b pl at of }
+
+pub game_solves_file : GameSolvesFile
+game_solves_file n m a g p class game f def h = game_solves n m a g (tied_game n m a g class game) p f def h
+
+pub file_solves_game : FileSolvesGame
+file_solves_game n m a g p class game h = file_solves n m a g (tied_game n m a g class game) p h
+
+pub orders_agree : OrdersAgree
+orders_agree n m a g p q class game s f fq def defq = orders_are_one n m a g (tied_game n m a g class game) s p q f fq def defq
+
+pub coordinates_fill : CoordinatesFill
+coordinates_fill m a d xs class above count = fills m a class (places m a class) (λ n h. values n m a class h) d xs above count
+
 pub games_are_well_made : GamesAreWellMade
 games_are_well_made n m a g class game = well_made n m a g class game (places m a class)

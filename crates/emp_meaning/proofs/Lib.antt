@@ -1,6 +1,9 @@
 pub mod TieLists
 pub mod Places
 pub mod Owners
+pub mod TieForms
+pub mod TieDefinitions
+pub mod Values
 pub mod MovePoints
 pub mod Move
 pub mod Deviations
@@ -12,8 +15,8 @@ pub mod MoveGame
 pub mod Multipliers
 pub mod Prices
 pub mod Leading
-pub mod Assembly
 pub mod FillLists
 pub mod WellMade
 pub mod FillOwners
 pub mod Filling
+pub mod Assembly
