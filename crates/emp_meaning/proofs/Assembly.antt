@@ -1,25 +1,18 @@
 -- What solves a file solves its game, and the other way.
-use Rattle.std.proofs.Common.{◌≡◌, ◌↔◌, ℕ, ◌<◌, ℤ, pos, ◌*ℤ◌, ◌<ℤ◌, Bool, true, false, length, Option, Some, None, refl, sym, ap, subst, ◌∙◌}
-use Rattle.std.specs.Prelude.{slice_get}
+use Rattle.std.proofs.Common.{◌≡◌, ◌↔◌, ℕ, ◌<◌, ℤ, ◌*ℤ◌, Bool, true, false, length, refl, sym, subst, ◌∙◌}
 use Rattle.std.proofs.lemmas.Bool.{false≢true}
-use Rattle.std.proofs.lemmas.Option.{slice_get_within}
-use Rattle.emp_num.specs.Ratio.{Ratio, ratio}
+use Rattle.emp_num.specs.Ratio.{ratio}
 use Rattle.emp_num.specs.Point.{Point}
 use Rattle.emp_ast.specs.declared.model.Model.{Model}
-use Rattle.emp_ast.specs.declared.annot.Block.{Block}
 use Rattle.emp_ast.specs.declared.annot.Annot.{Annot}
-use Rattle.emp_ast.specs.Meets.{MeetsEquation}
-use Rattle.emp_ast.specs.Parties.{block, EachDefinition}
 use Rattle.emp_ast.specs.Rivals.{Fits}
 use Rattle.emp_ast.specs.Solved.{IsSolved}
 use Rattle.emp_ast.specs.Equilibrium.{IsEquilibrium}
 use Rattle.emp_ast.specs.Bilevel.{IsBetterForLeader}
-use Rattle.emp_ast.specs.Bilevel as File
-use Rattle.emp_game.specs.Game.{Player}
 use Rattle.emp_game.specs.Solved as Play
-use Rattle.emp_split.specs.Games.{Leader, Game, coordinates, EachPlayer}
+use Rattle.emp_split.specs.Games.{Game, coordinates, EachPlayer}
 use Rattle.emp_split.specs.Meaning.{LeaderObeys, IsAdmissible, IsBetter}
-use Rattle.emp_problem.specs.GameOf.{IsPlayerOf, IsGameOf}
+use Rattle.emp_problem.specs.GameOf.{IsGameOf}
 use Rattle.emp_problem.specs.Class.{IsClassFile, SolvesBy, SolvesFile, MeetsDefinitions}
 use Rattle.emp_meaning.specs.Laws.{left_nums, GameSolvesFile, FileSolvesGame, OrdersAgree, CoordinatesFill, GamesAreWellMade}
 use Rattle.emp_meaning.proofs.Places.{places}
@@ -29,8 +22,8 @@ use Rattle.emp_meaning.proofs.WellMade.{well_made}
 use Rattle.emp_meaning.proofs.Filling.{fills}
 use Rattle.emp_meaning.proofs.Move.{left_count, range_count}
 use Rattle.emp_meaning.proofs.MoveGame.{all_solved_down, all_solved_up}
-use Rattle.emp_meaning.proofs.Prices.{AreTied, Priced, prices_down, prices_up}
-use Rattle.emp_meaning.proofs.Leading.{Led, led, not_led, leads_down, leads_up, better_same}
+use Rattle.emp_meaning.proofs.Prices.{AreTied, prices_down, prices_up}
+use Rattle.emp_meaning.proofs.Leading.{led, not_led, leads_down, leads_up, better_same}
 
 module _ (n : ℤ) (m : Model) (a : Annot) (g : Game) (t : AreTied n m a g) where
   -- ---- equilibria

@@ -1,17 +1,16 @@
 -- A deviation of the file is one of the game, and a deviation of the game is that of one of the file, over a larger denominator.
-use Rattle.std.proofs.Common.{◌≡◌, ◌⊎◌, inl, inr, ℕ, ◌<◌, ◌≤◌, ℤ, pos, neg_ℤ, ◌*ℤ◌, ◌<ℤ◌, Bool, true, false, cond, nat_eq, List, [], ◌∷◌, length, get_or, slice_index_or, Option, Some, None, arith, refl, sym, ap, ap₂, subst, ◌∙◌}
+use Rattle.std.proofs.Common.{◌≡◌, ◌⊎◌, inl, inr, ℕ, ◌<◌, ◌≤◌, ℤ, pos, neg_ℤ, ◌*ℤ◌, ◌<ℤ◌, true, false, cond, nat_eq, List, [], ◌∷◌, length, get_or, Some, arith, refl, sym, ap, ap₂, subst, ◌∙◌}
 use Rattle.std.specs.Prelude.{slice_get}
 use Rattle.std.proofs.lemmas.Bool.{eq-eqb, or_left, false≢true, cases_lt, cases_Bool, cond-true, cond-false, cond_both}
-use Rattle.std.proofs.lemmas.List.{ext_get_or, get_or_past}
-use Rattle.std.proofs.lemmas.List.Elements.{All-get_or}
+use Rattle.std.proofs.lemmas.List.{ext_get_or}
 use Rattle.std.proofs.lemmas.Option.{slice_get_within, slice_get-get_or, get_or_from_slice_get}
-use lib.IntN.{zero-*ℤ, *ℤ_comm}
+use lib.IntN.{zero-*ℤ}
 use Rattle.emp_algebra.specs.Vector.{cell, scale}
 use Rattle.emp_algebra.proofs.Laws.{mul_pos, neg_ℤ-*ℤ}
 use Rattle.emp_algebra.proofs.Order.{linear, cancel_right}
 use Rattle.emp_algebra.proofs.Ring.{var, neg, ◌⊗◌, by_ring}
 use Rattle.emp_algebra.proofs.Vectors.{length-scale, cell-scale}
-use Rattle.emp_num.specs.Ratio.{Ratio, ratio, negated, SameRatio}
+use Rattle.emp_num.specs.Ratio.{Ratio, ratio, SameRatio}
 use Rattle.emp_num.specs.Point.{Point, coordinate}
 use Rattle.emp_num.proofs.SamePoints.{cross_on}
 use Rattle.emp_systems.specs.Steps.{Quadratic, value_squared}
@@ -19,7 +18,6 @@ use Rattle.emp_systems.specs.Same.{AreSame}
 use Rattle.emp_systems.proofs.Same.{quadratic_same}
 use Rattle.emp_ast.specs.declared.model.End.{End}
 use Rattle.emp_ast.specs.declared.model.End.TheVariants.{Open, At}
-use Rattle.emp_ast.specs.declared.model.Equation.{Equation}
 use Rattle.emp_ast.specs.declared.model.Variable.{Variable}
 use Rattle.emp_ast.specs.declared.model.Sense.{Sense}
 use Rattle.emp_ast.specs.declared.model.Sense.TheVariants.{Min, Max}
@@ -28,7 +26,7 @@ use Rattle.emp_ast.specs.declared.annot.Block.{Block}
 use Rattle.emp_ast.specs.declared.annot.Block.TheVariants.{Agent, Vi}
 use Rattle.emp_ast.specs.declared.annot.Annot.{Annot}
 use Rattle.emp_ast.specs.Meets.{MeetsEquation, MeetsBounds}
-use Rattle.emp_ast.specs.Parties.{block, objective, block_objective, block_owns, names_variable, owns, defines_by, defines, is_defined, is_defined_of, EachDefinition}
+use Rattle.emp_ast.specs.Parties.{block, objective, block_objective, block_owns, names_variable, owns, defines_by, is_defined, EachDefinition}
 use Rattle.emp_ast.specs.Rivals.{Fits, IsDeviation}
 use Rattle.emp_ast.specs.SameLaws.{SameFraction}
 use Rattle.emp_ast.proofs.Fractions.{at_most_same, fraction_itself}
@@ -38,9 +36,8 @@ use Rattle.emp_game.specs.Solved.{InRange}
 use Rattle.emp_game.specs.Solved as Play
 use Rattle.emp_problem.specs.Left.{left, place, range_of, no_variable}
 use Rattle.emp_problem.specs.GameOf.{IsPurposeOf}
-use Rattle.emp_problem.specs.Class.{BlockFits, IsClassFile}
 use Rattle.emp_meaning.specs.Laws.{left_nums}
-use Rattle.emp_meaning.specs.Ties.{left_at, signed_ratio, Values, Deviates, Deviations}
+use Rattle.emp_meaning.specs.Ties.{left_at, signed_ratio, Deviates, Deviations}
 use Rattle.emp_meaning.proofs.MovePoints.{HasCoordinates, with_coordinates}
 use Rattle.emp_meaning.proofs.Move.{IsTied, block_fits, scaled_same, left_count, left_cell, left_past, placed_cell, range_count, range_is, defines_own, defined_among, defined_unbound}
 

@@ -1,39 +1,36 @@
 -- The leader of a bilevel file and that of its game.
-use Rattle.std.proofs.Common.{◌≡◌, ◌⊎◌, inl, inr, ◌↔◌, ℕ, zero, suc, ◌<◌, ◌≤◌, ℤ, pos, neg_ℤ, ◌+ℤ◌, ◌*ℤ◌, ◌≤ℤ◌, ◌<ℤ◌, Bool, true, false, ◌||◌, cond, nat_eq, nat_lt, List, [], ◌∷◌, All, map, length, get_or, Option, Some, None, arith, refl, sym, ap, ap₂, subst, ◌∙◌}
+use Rattle.std.proofs.Common.{◌≡◌, ◌⊎◌, inl, inr, ◌↔◌, ℕ, zero, suc, ◌<◌, ℤ, pos, neg_ℤ, ◌+ℤ◌, ◌*ℤ◌, ◌≤ℤ◌, ◌<ℤ◌, Bool, true, false, ◌||◌, cond, nat_eq, nat_lt, List, [], ◌∷◌, map, length, Option, Some, None, arith, refl, sym, ap, ap₂, subst, ◌∙◌}
 use Rattle.std.specs.Prelude.{slice_get, slice_index_or}
 use Rattle.std.specs.List.{filter}
-use Rattle.std.proofs.lemmas.Int.{ints}
-use Rattle.std.proofs.lemmas.Bool.{eqb-true, ltb-true, false≢true}
+use Rattle.std.proofs.lemmas.Bool.{eqb-true, false≢true}
 use Rattle.std.proofs.lemmas.Option.{slice_get_within, get_or_from_slice_get}
 use Rattle.std.proofs.lemmas.List.{length-map}
 use Rattle.std.proofs.lemmas.List.Elements.{All-map}
 use lib.IntN.{*ℤ-zero, zero-*ℤ}
-use Rattle.emp_algebra.proofs.Ring.{var, lit, neg, ◌⊕◌, ◌⊗◌, by_ring}
+use Rattle.emp_algebra.proofs.Ring.{var, lit, ◌⊕◌, ◌⊗◌, by_ring}
 use Rattle.emp_algebra.proofs.Laws.{mul_pos, neg_ℤ-*ℤ}
 use Rattle.emp_algebra.proofs.Order.{linear, mul_le_right, mul_lt_right, le_or_lt}
 use Rattle.emp_algebra.specs.Vector.{cell, dot}
-use Rattle.emp_num.specs.Ratio.{Ratio, ratio, negated, SameRatio}
+use Rattle.emp_num.specs.Ratio.{Ratio, ratio}
 use Rattle.emp_num.specs.Point.{Point, coordinate}
 use Rattle.emp_systems.specs.Steps.{Quadratic, value_squared, form as square_form}
-use Rattle.emp_ast.specs.declared.tree.EquId.{EquId}
-use Rattle.emp_ast.specs.declared.model.Equation.{Equation}
 use Rattle.emp_ast.specs.declared.model.Variable.{Variable}
 use Rattle.emp_ast.specs.declared.model.Sense.{Sense}
 use Rattle.emp_ast.specs.declared.model.Sense.TheVariants.{Min, Max}
 use Rattle.emp_ast.specs.declared.model.Model.{Model}
 use Rattle.emp_ast.specs.declared.annot.Annot.{Annot}
 use Rattle.emp_ast.specs.SameLaws.{SameFraction}
-use Rattle.emp_ast.specs.Meets.{IsAbove, IsBelow, MeetsEquation, MeetsBounds}
-use Rattle.emp_ast.specs.Parties.{Party, leader, objective, owns, names_equation, is_defined, is_constraint, constraints, EachDefinition, EachConstraint}
+use Rattle.emp_ast.specs.Meets.{MeetsEquation, MeetsBounds}
+use Rattle.emp_ast.specs.Parties.{leader, objective, owns, is_defined, EachDefinition}
 use Rattle.emp_ast.specs.Rivals.{Fits, IsFeasible}
 use Rattle.emp_ast.specs.Solved.{IsSmaller}
 use Rattle.emp_ast.specs.Solved as Solved
 use Rattle.emp_ast.specs.Bilevel.{IsBetterForLeader, IsBetterBy}
 use Rattle.emp_ast.proofs.Fractions.{fraction_on, fraction_back, smaller_same}
 use Rattle.emp_form.specs.Form.{Form, IsLinear}
-use Rattle.emp_game.specs.Game.{Row, Rule, names, range_at}
+use Rattle.emp_game.specs.Game.{names, range_at}
 use Rattle.emp_game.specs.Conditions.{row_of}
-use Rattle.emp_game.specs.Solved.{value_at, InRange, IsObeyed, Obeys}
+use Rattle.emp_game.specs.Solved.{value_at, InRange}
 use Rattle.emp_game.proofs.Slopes.{eqb_refl}
 use Rattle.emp_split.specs.Games.{Leader, Game}
 use Rattle.emp_split.specs.Meaning.{LeaderObeys, IsBetter}
@@ -41,9 +38,9 @@ use Rattle.emp_split.proofs.Each.{or_first, or_second}
 use Rattle.emp_left.specs.Left.{upper}
 use Rattle.emp_agents.specs.Given.{given_form, given_for, definition}
 use Rattle.emp_problem.specs.Left.{left, place_in, place, no_variable, range_of, leader_own, signed, signed_for, goal_form}
-use Rattle.emp_problem.specs.GameOf.{IsRowOf, IsQuadraticOf, IsRuleOf, AreRulesOf, IsLeaderOf, LeadsAs}
+use Rattle.emp_problem.specs.GameOf.{IsRowOf, IsQuadraticOf, IsLeaderOf, LeadsAs}
 use Rattle.emp_meaning.specs.Laws.{left_nums}
-use Rattle.emp_meaning.specs.Ties.{left_at, Places, signed_ratio, Values}
+use Rattle.emp_meaning.specs.Ties.{left_at, signed_ratio}
 use Rattle.emp_meaning.proofs.Move.{left_cell, placed_cell, range_is, defined_unbound}
 use Rattle.emp_meaning.proofs.PriceLists.{decided, there_is}
 use Rattle.emp_meaning.proofs.MoveRules.{obeys_down, obeys_up}

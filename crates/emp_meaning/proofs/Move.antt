@@ -1,5 +1,5 @@
 -- What moves between a file and its game: coordinates, defined objectives and ranges.
-use Rattle.std.proofs.Common.{◌≡◌, ◌⊎◌, inl, inr, ℕ, zero, suc, ◌<◌, ◌≤◌, ℤ, pos, ◌*ℤ◌, ◌<ℤ◌, Bool, true, false, not, ◌||◌, nat_eq, List, [], ◌∷◌, map, length, slice_index_or, Option, Some, None, arith, refl, sym, ap, subst, ◌∙◌}
+use Rattle.std.proofs.Common.{◌≡◌, ◌⊎◌, inl, inr, ℕ, zero, suc, ◌<◌, ◌≤◌, ℤ, pos, ◌*ℤ◌, ◌<ℤ◌, Bool, true, false, not, nat_eq, List, [], ◌∷◌, map, length, Option, Some, None, arith, refl, sym, ap, subst, ◌∙◌}
 use Rattle.std.specs.Prelude.{slice_get, ◌&&◌}
 use Rattle.std.specs.List.{list_any}
 use Rattle.std.proofs.lemmas.Bool.{eq-eqb, eqb-true, and_parts, or_cases, or_left, or_right, false≢true, cases_lt}
@@ -21,10 +21,9 @@ use Rattle.emp_ast.specs.declared.model.Model.{Model}
 use Rattle.emp_ast.specs.declared.annot.Block.{Block}
 use Rattle.emp_ast.specs.declared.annot.Annot.{Annot}
 use Rattle.emp_ast.specs.Meets.{IsAbove, IsBelow}
-use Rattle.emp_ast.specs.Parties.{Party, leader, block, names_equation, equations, objective, is_open, has_no_bound, is_dual, is_implicit_equation, ties, can_define, has_alone, holders, defines_by, defines, is_defined_by, is_defined_of, some_block_defines, is_defined}
+use Rattle.emp_ast.specs.Parties.{Party, block, names_equation, equations, objective, is_open, has_no_bound, is_dual, is_implicit_equation, ties, can_define, has_alone, holders, defines_by, defines, is_defined_by, is_defined_of, some_block_defines, is_defined}
 use Rattle.emp_ast.specs.Occurrence.{occurrences}
 use Rattle.emp_game.specs.Game.{Player, Ranges, range_at}
-use Rattle.emp_left.specs.Left.{selected}
 use Rattle.emp_problem.specs.Left.{left, place, range_of}
 use Rattle.emp_problem.specs.GameOf.{IsPlayerOf}
 use Rattle.emp_problem.specs.Class.{BlockFits, IsClassFile}

@@ -1,9 +1,9 @@
 -- The flow of a variational inequality at a point of the file is the dot product of the game's flow row.
-use Rattle.std.proofs.Common.{◌≡◌, ◌⊎◌, inl, inr, ℕ, zero, suc, ◌<◌, ◌≤◌, ℤ, pos, ◌+ℤ◌, ◌*ℤ◌, ◌≤ℤ◌, ◌<ℤ◌, Bool, true, false, not, cond, ◌||◌, nat_eq, List, [], ◌∷◌, ◌++◌, All, map, length, get_or, Option, Some, None, arith, refl, sym, ap, ap₂, subst, ◌∙◌}
+use Rattle.std.proofs.Common.{◌≡◌, ◌⊎◌, inl, inr, ℕ, ◌<◌, ℤ, pos, ◌+ℤ◌, ◌*ℤ◌, ◌<ℤ◌, Bool, true, false, not, nat_eq, List, [], ◌∷◌, ◌++◌, All, map, length, get_or, Some, None, arith, refl, sym, ap, ap₂, subst, ◌∙◌}
 use Rattle.std.specs.Prelude.{slice_get, filter, option_map}
 use Rattle.std.specs.List.{list_any}
 use Rattle.std.proofs.lemmas.Int.{ints}
-use Rattle.std.proofs.lemmas.Bool.{eq-eqb, or_left, or_right, false≢true, cases_Bool}
+use Rattle.std.proofs.lemmas.Bool.{eq-eqb, or_right, false≢true, cases_Bool}
 use Rattle.std.proofs.lemmas.List.{map-append}
 use Rattle.std.proofs.lemmas.List.Elements.{All-head, All-tail, All-get_or, All-from_get_or}
 use Rattle.std.proofs.lemmas.List.Folds.{list_any_at}
@@ -13,31 +13,30 @@ use Rattle.emp_algebra.specs.Vector.{cell, dot, add_rows}
 use Rattle.emp_algebra.proofs.Laws.{mul_pos}
 use Rattle.emp_algebra.proofs.Ring.{var, lit, ◌⊕◌, ◌⊗◌, by_ring}
 use Rattle.emp_algebra.proofs.Vectors.{dot-add_rows, dot-zeros}
-use Rattle.emp_num.specs.Ratio.{Ratio, ratio, plus, times, SameRatio}
+use Rattle.emp_num.specs.Ratio.{Ratio, ratio, plus, times}
 use Rattle.emp_num.specs.Point.{Point}
 use Rattle.emp_systems.specs.Own.{unit}
 use Rattle.emp_systems.proofs.Own.{dot_unit}
 use Rattle.emp_ast.specs.declared.tree.VarId.{VarId}
 use Rattle.emp_ast.specs.declared.tree.EquId.{EquId}
-use Rattle.emp_ast.specs.declared.model.Equation.{Equation}
 use Rattle.emp_ast.specs.declared.model.Model.{Model}
 use Rattle.emp_ast.specs.declared.annot.Block.{Block}
-use Rattle.emp_ast.specs.declared.annot.Block.TheVariants.{Agent, Vi}
+use Rattle.emp_ast.specs.declared.annot.Block.TheVariants.{Vi}
 use Rattle.emp_ast.specs.declared.annot.Annot.{Annot}
 use Rattle.emp_ast.specs.Value.{both}
-use Rattle.emp_ast.specs.Parties.{block, names_variable, names_equation, block_variables, functions, block_owns, block_objective, owns, is_defined, is_defined_by, is_defined_of}
+use Rattle.emp_ast.specs.Parties.{block, names_variable, names_equation, functions, block_owns, block_objective, owns, is_defined, is_defined_by, is_defined_of}
 use Rattle.emp_ast.specs.Convex.{counted_by, counted}
 use Rattle.emp_ast.specs.Rivals.{Fits}
-use Rattle.emp_ast.specs.Solved.{sides_gap, gap_by, flow}
+use Rattle.emp_ast.specs.Solved.{gap_by, flow}
 use Rattle.emp_ast.specs.SameLaws.{SameFraction}
-use Rattle.emp_ast.proofs.Fractions.{fraction_itself, fraction_on, fraction_plus, fraction_times}
+use Rattle.emp_ast.proofs.Fractions.{fraction_on, fraction_plus, fraction_times}
 use Rattle.emp_form.specs.Form.{form_of}
 use Rattle.emp_game.specs.Game.{Row, Player, Ranges}
 use Rattle.emp_game.specs.Solved.{value_at, flow_row}
 use Rattle.emp_owner.proofs.Lists.{vi_owns, vi_functions}
 use Rattle.emp_problem.specs.Left.{left, place, equation_form, block_flow}
 use Rattle.emp_problem.specs.GameOf.{IsRowOf, AreFlowsOf}
-use Rattle.emp_problem.specs.Class.{VariablesFit, some_block_constrains, is_function, is_affine}
+use Rattle.emp_problem.specs.Class.{some_block_constrains, is_function, is_affine}
 use Rattle.emp_meaning.specs.Laws.{left_nums}
 use Rattle.emp_meaning.proofs.Move.{IsTied, block_fits}
 use Rattle.emp_meaning.proofs.PriceLists.{there_is}

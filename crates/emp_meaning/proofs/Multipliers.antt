@@ -1,5 +1,5 @@
 -- The multipliers of a block are those of its player, over a common denominator.
-use Rattle.std.proofs.Common.{◌≡◌, ◌⊎◌, inl, inr, ℕ, zero, suc, ◌<◌, ℤ, pos, neg_ℤ, ◌+ℤ◌, ◌-ℤ◌, ◌*ℤ◌, ◌≤ℤ◌, ◌<ℤ◌, Bool, true, false, ◌||◌, not, cond, nat_eq, List, [], ◌∷◌, ◌++◌, All, map, length, Option, Some, None, arith, refl, sym, ap, ap₂, subst, ◌∙◌}
+use Rattle.std.proofs.Common.{◌≡◌, ◌⊎◌, inl, inr, ℕ, zero, suc, ◌<◌, ℤ, pos, ◌+ℤ◌, ◌*ℤ◌, ◌≤ℤ◌, ◌<ℤ◌, true, false, ◌||◌, not, cond, nat_eq, List, [], ◌∷◌, ◌++◌, All, map, length, Option, Some, None, arith, refl, sym, ap, ap₂, subst, ◌∙◌}
 use Rattle.std.specs.Prelude.{slice_get, slice_index_or, option_map}
 use Rattle.std.specs.List.{filter}
 use Rattle.std.proofs.lemmas.Int.{ints}
@@ -10,14 +10,14 @@ use Rattle.std.proofs.lemmas.List.Folds.{list_any-append}
 use lib.IntN.{*ℤ-zero}
 use Rattle.emp_algebra.proofs.Ring.{var, lit, neg, ◌⊕◌, ◌⊖◌, ◌⊗◌, by_ring}
 use Rattle.emp_algebra.proofs.Laws.{mul_pos}
-use Rattle.emp_algebra.proofs.Order.{linear, mul_le_right, le_cancel_right, cancel_right}
-use Rattle.emp_algebra.proofs.Vectors.{dot-scale, dot-add_rows, dot-zeros, cell-scale, length-scale}
-use Rattle.emp_algebra.specs.Vector.{cell, dot, scale, add_rows}
+use Rattle.emp_algebra.proofs.Order.{linear, mul_le_right, le_cancel_right}
+use Rattle.emp_algebra.proofs.Vectors.{dot-add_rows, dot-zeros, cell-scale, length-scale}
+use Rattle.emp_algebra.specs.Vector.{cell, dot, scale}
 use Rattle.emp_algebra.specs.Deciding.{Zero, Weighted}
 use Rattle.emp_num.specs.Ratio.{Ratio, ratio, negated, plus, minus, times, SameRatio, AtMostRatio}
 use Rattle.emp_num.specs.Point.{Point, coordinate}
 use Rattle.emp_num.specs.SamePoint.{SamePoint}
-use Rattle.emp_num.proofs.SamePoints.{same_back, cross_on}
+use Rattle.emp_num.proofs.SamePoints.{same_back}
 use Rattle.emp_systems.specs.Steps.{Quadratic, value_squared, IsAtMost}
 use Rattle.emp_systems.specs.Own.{unit}
 use Rattle.emp_systems.proofs.Forms.{value-scaled}
@@ -35,7 +35,6 @@ use Rattle.emp_ast.specs.declared.annot.Block.{Block}
 use Rattle.emp_ast.specs.declared.annot.Block.TheVariants.{Agent, Vi}
 use Rattle.emp_ast.specs.declared.annot.Annot.{Annot}
 use Rattle.emp_ast.specs.SameLaws.{SameFraction, SameValue}
-use Rattle.emp_ast.specs.Value.{both}
 use Rattle.emp_ast.specs.Meets.{IfBoth, MeetsEquation}
 use Rattle.emp_ast.specs.Parties.{Party, block, objective, block_objective, block_variables, functions, owns, block_owns, names_variable, names_equation, is_defined, is_defined_of, is_defined_by, is_constraint, constraints, EachDefinition}
 use Rattle.emp_ast.specs.Rivals.{Fits, IsDeviation}
@@ -47,7 +46,6 @@ use Rattle.emp_ast.proofs.Fractions.{fraction_on, fraction_back, fraction_plus, 
 use Rattle.emp_ast.proofs.SameValues.{joined_both, if_both}
 use Rattle.emp_ast.proofs.SameWords.{same_deviation, same_multipliers}
 use Rattle.emp_form.specs.Form.{form_of}
-use Rattle.emp_form.specs.Expansion.{form}
 use Rattle.emp_game.specs.Game.{Row, Rule, Purpose, goal, flow as flow_by, Player, Ranges}
 use Rattle.emp_game.specs.Solved.{value_at, flow_row, purpose_at, times_at, AreSigned, charged, charged_purpose}
 use Rattle.emp_game.specs.Solved as Play
@@ -55,15 +53,14 @@ use Rattle.emp_game.proofs.Slopes.{eqb_refl}
 use Rattle.emp_game.proofs.Sound.{total_at, total_more, no_charge}
 use Rattle.emp_split.proofs.Each.{or_first, or_second}
 use Rattle.emp_left.specs.Left.{selected}
-use Rattle.emp_agents.specs.Given.{difference}
-use Rattle.emp_problem.specs.Left.{left, place, equation_form, function_form, goal_form, block_flow}
-use Rattle.emp_problem.specs.GameOf.{IsRowOf, IsQuadraticOf, AreFlowsOf, IsPurposeOf, IsRuleOf, AreRulesOf, IsPlayerOf}
-use Rattle.emp_problem.specs.Class.{BlockFits, is_affine, IsClassFile}
+use Rattle.emp_problem.specs.Left.{left, place, equation_form}
+use Rattle.emp_problem.specs.GameOf.{IsRowOf, AreFlowsOf, IsPurposeOf, IsRuleOf, AreRulesOf}
+use Rattle.emp_problem.specs.Class.{is_affine, IsClassFile}
 use Rattle.emp_meaning.specs.Laws.{left_nums}
-use Rattle.emp_meaning.specs.Ties.{left_at, IsParty, Places, GapIs, signed_ratio, Values, Deviates, Deviations}
+use Rattle.emp_meaning.specs.Ties.{Places, GapIs, signed_ratio, Values, Deviates}
 use Rattle.emp_meaning.proofs.Move.{IsTied, block_fits, placed_cell}
 use Rattle.emp_meaning.proofs.Deviations.{deviations}
-use Rattle.emp_meaning.proofs.PriceLists.{decided, all_here, there_is, Listed, EachListed, constraint_named, constraints_listed, function_affine}
+use Rattle.emp_meaning.proofs.PriceLists.{decided, there_is, Listed, EachListed, constraint_named, constraints_listed, function_affine}
 
 -- ---- values that are there
 value_on : (x : Option Ratio) (y z : Ratio) → SameValue x (Some y) → SameFraction y z → SameValue x (Some z)

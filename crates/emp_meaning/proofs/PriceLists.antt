@@ -1,9 +1,9 @@
 -- The constraints of a party: each has its equation and is affine, and their list names them all.
-use Rattle.std.proofs.Common.{◌≡◌, ◌⊎◌, inl, inr, ℕ, zero, suc, ◌+◌, ◌<◌, Bool, true, false, ◌&&◌, ◌||◌, not, cond, nat_eq, List, [], ◌∷◌, ◌++◌, All, map, length, Option, Some, None, arith, refl, sym, ap, ap₂, subst, ◌∙◌}
-use Rattle.std.specs.Prelude.{slice_get, slice_index_or}
+use Rattle.std.proofs.Common.{◌≡◌, ◌⊎◌, inl, inr, ℕ, zero, suc, ◌+◌, ◌<◌, Bool, true, false, ◌&&◌, ◌||◌, not, cond, nat_eq, List, [], ◌∷◌, All, map, length, Option, Some, None, arith, refl, sym, ap, subst, ◌∙◌}
+use Rattle.std.specs.Prelude.{slice_get}
 use Rattle.std.specs.List.{list_any, filter}
 use Rattle.std.proofs.lemmas.Bool.{eqb-true, and_from, false≢true}
-use Rattle.std.proofs.lemmas.Option.{slice_get_within, get_or_from_slice_get, slice_get-get_or}
+use Rattle.std.proofs.lemmas.Option.{slice_get_within, get_or_from_slice_get}
 use Rattle.std.proofs.lemmas.List.Elements.{All-nil, All-cons, All-head, All-tail, All-append, All-map, All-filter, All-weaker}
 use Rattle.std.proofs.lemmas.List.Folds.{list_any_at}
 use Rattle.emp_ast.specs.declared.tree.EquId.{EquId}
@@ -12,9 +12,9 @@ use Rattle.emp_ast.specs.declared.model.Model.{Model}
 use Rattle.emp_ast.specs.declared.annot.Block.{Block}
 use Rattle.emp_ast.specs.declared.annot.Block.TheVariants.{Agent, Vi}
 use Rattle.emp_ast.specs.declared.annot.Annot.{Annot}
-use Rattle.emp_ast.specs.Parties.{Party, leader, block, names_variable, names_equation, block_variables, listed_equations, functions, block_equations, all_equations, equations_by, equations, some_block_has, defines, block_functions, is_constraint, constraints}
+use Rattle.emp_ast.specs.Parties.{Party, leader, block, names_variable, names_equation, block_variables, listed_equations, functions, all_equations, equations_by, equations, some_block_has, defines, block_functions, is_constraint, constraints}
 use Rattle.emp_split.proofs.Each.{or_first, or_second}
-use Rattle.emp_problem.specs.Class.{AnnotFits, BlockFits, EquationsFit, some_block_constrains, is_function, is_affine, IsClassFile}
+use Rattle.emp_problem.specs.Class.{BlockFits, some_block_constrains, is_function, is_affine, IsClassFile}
 use Rattle.emp_meaning.specs.Ties.{IsParty}
 use Rattle.emp_meaning.proofs.Move.{block_fits}
 

@@ -1,5 +1,5 @@
 -- The prices of a file are those of its game, over one denominator.
-use Rattle.std.proofs.Common.{◌≡◌, ◌⊎◌, inl, inr, ℕ, zero, suc, ◌+◌, ◌<◌, ◌≤◌, ℤ, pos, negsuc, ◌*ℤ◌, ◌<ℤ◌, Bool, true, false, ◌&&◌, ◌||◌, not, cond, nat_eq, List, [], ◌∷◌, All, map, length, get_or, Option, Some, None, arith, refl, sym, ap, ap₂, subst, ◌∙◌}
+use Rattle.std.proofs.Common.{◌≡◌, ◌⊎◌, inl, inr, ℕ, zero, suc, ◌+◌, ◌<◌, ◌≤◌, ℤ, pos, negsuc, ◌*ℤ◌, ◌<ℤ◌, Bool, true, false, ◌&&◌, ◌||◌, not, cond, nat_eq, List, [], ◌∷◌, map, length, get_or, Option, Some, None, arith, refl, sym, ap, ap₂, subst, ◌∙◌}
 use Rattle.std.specs.Prelude.{slice_get, is_some, nat_le, unwrap_or}
 use Rattle.std.specs.List.{list_any, count_by}
 use Rattle.std.proofs.lemmas.Int.{ints}
@@ -9,13 +9,12 @@ use Rattle.std.proofs.lemmas.List.Sums.{sum_by-cons}
 use Rattle.std.proofs.lemmas.List.Folds.{list_any_none}
 use Rattle.emp_algebra.proofs.Ring.{var, ◌⊗◌, by_ring}
 use Rattle.emp_algebra.proofs.Laws.{mul_pos}
-use Rattle.emp_algebra.proofs.Order.{linear, cancel_right}
+use Rattle.emp_algebra.proofs.Order.{cancel_right}
 use Rattle.emp_algebra.specs.Vector.{cell, scale}
 use Rattle.emp_num.specs.Ratio.{Ratio, ratio, SameRatio}
 use Rattle.emp_num.specs.Point.{Point, coordinate}
 use Rattle.emp_ast.specs.declared.tree.VarId.{VarId}
 use Rattle.emp_ast.specs.declared.tree.EquId.{EquId}
-use Rattle.emp_ast.specs.declared.model.Equation.{Equation}
 use Rattle.emp_ast.specs.declared.model.Model.{Model}
 use Rattle.emp_ast.specs.declared.annot.Block.{Block}
 use Rattle.emp_ast.specs.declared.annot.Annot.{Annot}
@@ -38,7 +37,7 @@ use Rattle.emp_split.specs.Meaning.{ArePrices}
 use Rattle.emp_split.proofs.Each.{or_first, or_second, each, each_both, some_has, each_has, Found, at_first}
 use Rattle.emp_split.proofs.Places.{holder_first, holder_self}
 use Rattle.emp_problem.specs.Left.{left, place}
-use Rattle.emp_problem.specs.GameOf.{AreRulesOf, IsPlayerOf, ArePlayersOf, IsGameOf}
+use Rattle.emp_problem.specs.GameOf.{AreRulesOf, IsPlayerOf, IsGameOf}
 use Rattle.emp_problem.specs.Class.{IsClassFile}
 use Rattle.emp_meaning.specs.Laws.{left_nums}
 use Rattle.emp_meaning.specs.Ties.{Places, Owners, Values}
