@@ -39,7 +39,8 @@ use Rattle.emp_problem.specs.GameOf.{IsPurposeOf}
 use Rattle.emp_meaning.specs.Laws.{left_nums}
 use Rattle.emp_meaning.specs.Ties.{left_at, signed_ratio, Deviates, Deviations}
 use Rattle.emp_meaning.proofs.MovePoints.{HasCoordinates, with_coordinates}
-use Rattle.emp_meaning.proofs.Move.{IsTied, block_fits, scaled_same, left_count, left_cell, left_past, placed_cell, range_count, range_is, defines_own, defined_among, defined_unbound}
+use Rattle.emp_meaning.proofs.Move.{IsTied, block_fits, scaled_same, left_count, left_cell, left_past, placed_cell, range_count, range_is, defines_own, defined_unbound}
+use Rattle.emp_meaning.proofs.Places.{party_defines}
 
 -- ---- equal fractions in one range
 range_same : (r : End × End) (x y : Ratio) → SameFraction x y → InRange r x → InRange r y
@@ -143,7 +144,7 @@ module _ (n : ℤ) (m : Model) (a : Annot) (ranges : Ranges) (k : ℕ) (b : Bloc
       let value = value_squared q e ys in
       let there_value = value_squared q r.den (left_nums m a r) in
       let x = signed_ratio s (coordinate r w.at) in
-      let turned = signed_turned s (coordinate r w.at) (ratio value (n *ℤ (e *ℤ e))) (given w.at fit.0 (defined_among m a w.at k l mine) own) in
+      let turned = signed_turned s (coordinate r w.at) (ratio value (n *ℤ (e *ℤ e))) (given w.at fit.0 (party_defines m a (block k) w.at l mine) own) in
       (tied.values.given (block k) s w.at q r l is of fits).1
       (cross_on x.top x.bottom value (n *ℤ (e *ℤ e)) there_value (n *ℤ (r.den *ℤ r.den)) (mul_pos n (e *ℤ e) tied.positive (mul_pos e e above above)) turned (value_level n q e ys r.den (left_nums m a r) same))
       j c there defined

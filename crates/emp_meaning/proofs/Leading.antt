@@ -1,8 +1,7 @@
 -- The leader of a bilevel file and that of its game.
-use Rattle.std.proofs.Common.{◌≡◌, ◌⊎◌, inl, inr, ◌↔◌, ℕ, zero, suc, ◌<◌, ℤ, pos, neg_ℤ, ◌+ℤ◌, ◌*ℤ◌, ◌≤ℤ◌, ◌<ℤ◌, Bool, true, false, ◌||◌, cond, nat_eq, nat_lt, List, [], ◌∷◌, map, length, Option, Some, None, arith, refl, sym, ap, ap₂, subst, ◌∙◌}
+use Rattle.std.proofs.Common.{◌≡◌, ◌⊎◌, inl, inr, ◌↔◌, ℕ, zero, suc, ◌<◌, ℤ, pos, neg_ℤ, ◌+ℤ◌, ◌*ℤ◌, ◌≤ℤ◌, ◌<ℤ◌, true, false, cond, nat_lt, List, [], ◌∷◌, map, length, Option, Some, None, arith, refl, sym, ap, ap₂, subst, ◌∙◌}
 use Rattle.std.specs.Prelude.{slice_get, slice_index_or}
-use Rattle.std.specs.List.{filter}
-use Rattle.std.proofs.lemmas.Bool.{eqb-true, false≢true}
+use Rattle.std.proofs.lemmas.Bool.{cases_Bool}
 use Rattle.std.proofs.lemmas.Option.{slice_get_within, get_or_from_slice_get}
 use Rattle.std.proofs.lemmas.List.{length-map}
 use Rattle.std.proofs.lemmas.List.Elements.{All-map}
@@ -31,78 +30,25 @@ use Rattle.emp_form.specs.Form.{Form, IsLinear}
 use Rattle.emp_game.specs.Game.{names, range_at}
 use Rattle.emp_game.specs.Conditions.{row_of}
 use Rattle.emp_game.specs.Solved.{value_at, InRange}
-use Rattle.emp_game.proofs.Slopes.{eqb_refl}
 use Rattle.emp_split.specs.Games.{Leader, Game}
 use Rattle.emp_split.specs.Meaning.{LeaderObeys, IsBetter}
-use Rattle.emp_split.proofs.Each.{or_first, or_second}
 use Rattle.emp_left.specs.Left.{upper}
 use Rattle.emp_agents.specs.Given.{given_form, given_for, definition}
-use Rattle.emp_problem.specs.Left.{left, place_in, place, no_variable, range_of, leader_own, signed, signed_for, goal_form}
+use Rattle.emp_problem.specs.Left.{left, place, no_variable, range_of, leader_own, signed, signed_for, goal_form}
 use Rattle.emp_problem.specs.GameOf.{IsRowOf, IsQuadraticOf, IsLeaderOf, LeadsAs}
 use Rattle.emp_meaning.specs.Laws.{left_nums}
 use Rattle.emp_meaning.specs.Ties.{left_at, signed_ratio}
-use Rattle.emp_meaning.proofs.Move.{left_cell, placed_cell, range_is, defined_unbound}
-use Rattle.emp_meaning.proofs.PriceLists.{decided, there_is}
+use Rattle.emp_meaning.proofs.Move.{placed_cell, range_is, defined_unbound}
+use Rattle.emp_meaning.proofs.PriceLists.{there_is}
 use Rattle.emp_meaning.proofs.MoveRules.{obeys_down, obeys_up}
 use Rattle.emp_meaning.proofs.Multipliers.{nothing_value}
 use Rattle.emp_meaning.proofs.Prices.{AreTied}
+use Rattle.emp_meaning.proofs.TieLists.{Source, map_source, map_named, Kept, filter_source, filter_has}
+use Rattle.emp_meaning.proofs.Places.{named_left, left_named}
 
--- ---- lists of coordinates
-names_at : (vs : List ℕ) (i : ℕ) → i < length vs → names vs (slice_index_or vs i 0) ≡ true
-names_at [] i h = absurd (omega arith)
-names_at (v ∷ vs) zero h = or_first (nat_eq v v) (names vs v) (eqb_refl v)
-names_at (v ∷ vs) (suc i) h = or_second (nat_eq v (slice_index_or vs i 0)) (names vs (slice_index_or vs i 0)) (names_at vs i (omega arith))
-
-names_filter : (test : ℕ → Bool) (vs : List ℕ) (v : ℕ) → test v ≡ true → names vs v ≡ true → names (filter test vs) v ≡ true
-names_filter test [] v t h = h
-names_filter test (u ∷ vs) v t h = go (decided (nat_eq u v)) (decided (test u)) (λ s. names_filter test vs v t s)
-  where
-    go : (nat_eq u v ≡ true) ⊎ (nat_eq u v ≡ false) → (test u ≡ true) ⊎ (test u ≡ false) → (names vs v ≡ true → names (filter test vs) v ≡ true) → names (cond (test u) (u ∷ filter test vs) (filter test vs)) v ≡ true
-    go (inl s) (inl w) rest = ap (λ b. names (cond b (u ∷ filter test vs) (filter test vs)) v) w ∙ or_first (nat_eq u v) (names (filter test vs) v) s
-    go (inl s) (inr w) rest = absurd (false≢true (sym w ∙ (ap test (eqb-true u v s) ∙ t)))
-    go (inr s) (inl w) rest = ap (λ b. names (cond b (u ∷ filter test vs) (filter test vs)) v) w ∙ or_second (nat_eq u v) (names (filter test vs) v) (rest (sym (ap (λ b. b || names vs v) s) ∙ h))
-    go (inr s) (inr w) rest = ap (λ b. names (cond b (u ∷ filter test vs) (filter test vs)) v) w ∙ rest (sym (ap (λ b. b || names vs v) s) ∙ h)
-
-names_map : (f : ℕ → ℕ) (vs : List ℕ) (v : ℕ) → names vs v ≡ true → names (map f vs) (f v) ≡ true
-names_map f [] v h = h
-names_map f (u ∷ vs) v h = go (decided (nat_eq u v)) (λ s. names_map f vs v s)
-  where
-    go : (nat_eq u v ≡ true) ⊎ (nat_eq u v ≡ false) → (names vs v ≡ true → names (map f vs) (f v) ≡ true) → nat_eq (f u) (f v) || names (map f vs) (f v) ≡ true
-    go (inl s) rest = or_first (nat_eq (f u) (f v)) (names (map f vs) (f v)) (ap (λ x. nat_eq (f x) (f v)) (eqb-true u v s) ∙ eqb_refl (f v))
-    go (inr s) rest = or_second (nat_eq (f u) (f v)) (names (map f vs) (f v)) (rest (sym (ap (λ b. b || names vs v) s) ∙ h))
-
--- a place that is named is that of a variable of the list that passes
-pub record Chosen (f : ℕ → ℕ) (test : ℕ → Bool) (vs : List ℕ) (i : ℕ) : Type 0 where
-  pub variable : ℕ
-  pub there : names vs variable ≡ true
-  pub passes : test variable ≡ true
-  pub is : f variable ≡ i
-
-pub chosen : (f : ℕ → ℕ) (test : ℕ → Bool) (vs : List ℕ) (i : ℕ) → names (map f (filter test vs)) i ≡ true → Chosen f test vs i
-chosen f test [] i h = absurd (false≢true h)
-chosen f test (u ∷ vs) i h = go (decided (test u)) (λ s. chosen f test vs i s)
-  where
-    later : Chosen f test vs i → Chosen f test (u ∷ vs) i
-    later c = record { variable = c.variable; there = or_second (nat_eq u c.variable) (names vs c.variable) c.there; passes = c.passes; is = c.is }
-
-    go : (test u ≡ true) ⊎ (test u ≡ false) → (names (map f (filter test vs)) i ≡ true → Chosen f test vs i) → Chosen f test (u ∷ vs) i
-    go (inr s) rest = later (rest (sym (ap (λ b. names (map f (cond b (u ∷ filter test vs) (filter test vs))) i) s) ∙ h))
-    go (inl s) rest = by_name (decided (nat_eq (f u) i)) (sym (ap (λ b. names (map f (cond b (u ∷ filter test vs) (filter test vs))) i) s) ∙ h)
-      where
-        by_name : (nat_eq (f u) i ≡ true) ⊎ (nat_eq (f u) i ≡ false) → nat_eq (f u) i || names (map f (filter test vs)) i ≡ true → Chosen f test (u ∷ vs) i
-        by_name (inl w) k = record { variable = u; there = or_first (nat_eq u u) (names vs u) (eqb_refl u); passes = s; is = eqb-true (f u) i w }
-        by_name (inr w) k = later (rest (sym (ap (λ b. b || names (map f (filter test vs)) i) w) ∙ k))
-
-pub placed_in : (vs : List ℕ) (v : ℕ) → names vs v ≡ true → (place_in vs v < length vs) × (slice_index_or vs (place_in vs v) 0 ≡ v)
-placed_in [] v h = absurd (false≢true h)
-placed_in (u ∷ vs) v h = go (decided (nat_eq u v)) (λ s. placed_in vs v s)
-  where
-    abbrev_at : ℕ → Type 0
-    abbrev_at i = (i < suc (length vs)) × (slice_index_or (u ∷ vs) i 0 ≡ v)
-
-    go : (nat_eq u v ≡ true) ⊎ (nat_eq u v ≡ false) → (names vs v ≡ true → (place_in vs v < length vs) × (slice_index_or vs (place_in vs v) 0 ≡ v)) → abbrev_at (cond (nat_eq u v) 0 (suc (place_in vs v)))
-    go (inl s) rest = subst (λ b. abbrev_at (cond b 0 (suc (place_in vs v)))) (sym s) (omega arith, eqb-true u v s)
-    go (inr s) rest = let r = rest (sym (ap (λ b. b || names vs v) s) ∙ h) in let l = r.0 in subst (λ b. abbrev_at (cond b 0 (suc (place_in vs v)))) (sym s) (omega arith, r.1)
+map_id : (vs : List ℕ) → map (λ u. u) vs ≡ vs
+map_id [] = refl
+map_id (v ∷ vs) = ap (λ (us : List ℕ). v ∷ us) (map_id vs)
 
 -- ---- the leader of the game
 pub record Led (n : ℤ) (m : Model) (a : Annot) (g : Game) : Type 0 where
@@ -131,22 +77,31 @@ module _ (n : ℤ) (m : Model) (a : Annot) (g : Game) (t : AreTied n m a g) (bil
   range_of_variable v x at = ap (λ y. (y.low, y.high)) (get_or_from_slice_get m.variables v x no_variable at)
 
   ranges_down : (p : Point) → ((v : ℕ) (x : Variable) → slice_get m.variables v ≡ Some x → owns m a leader v ≡ true → MeetsBounds p v x) → (i : ℕ) → names l.own i ≡ true → InRange (range_at g.ranges i) (ratio (cell (left_nums m a p) i) p.den)
-  ranges_down p h i own = go (chosen (place m a) (λ v. owns m a leader v) (left m a) i (ap (λ (vs : List ℕ). names vs i) (sym is.own) ∙ own))
+  ranges_down p h i own = by_variable (there_is m.variables v within.0)
     where
-      go : Chosen (place m a) (λ v. owns m a leader v) (left m a) i → InRange (range_at g.ranges i) (ratio (cell (left_nums m a p) i) p.den)
-      go c = by_variable (there_is m.variables c.variable (subst (λ v. v < length m.variables) at.1 (t.places.at (place m a c.variable) at.0).0))
-        where
-          at : (place m a c.variable < length (left m a)) × (left_at m a (place m a c.variable) ≡ c.variable)
-          at = placed_in (left m a) c.variable c.there
+      s : Source (place m a) (leader_own m a) i
+      s = map_source (place m a) (leader_own m a) i (ap (λ (vs : List ℕ). names vs i) (sym is.own) ∙ own)
 
-          by_variable : (x : Variable) × (slice_get m.variables c.variable ≡ Some x) → InRange (range_at g.ranges i) (ratio (cell (left_nums m a p) i) p.den)
-          by_variable x =
-              subst (λ j. InRange (range_at g.ranges j) (ratio (cell (left_nums m a p) j) p.den)) c.is
-              (subst (λ r. InRange r (ratio (cell (left_nums m a p) (place m a c.variable)) p.den)) (sym (range_is m a g.ranges (place m a c.variable) t.game.ranges at.0 ∙ (ap (range_of m) at.1 ∙ range_of_variable c.variable x.0 x.1)))
-              (subst (λ z. InRange (x.0.low, x.0.high) (ratio z p.den)) (sym (left_cell m a p (place m a c.variable) at.0 ∙ ap (cell p.nums) at.1)) (h c.variable x.0 x.1 c.passes)))
+      v : ℕ
+      v = s.entry
+
+      kept : Kept (λ u. owns m a leader u) (left m a) v
+      kept = filter_source (λ u. owns m a leader u) (left m a) s.index v s.at
+
+      within : (v < length m.variables) × (is_defined m a v ≡ false)
+      within = named_left m a v (subst (λ us. names us v ≡ true) (map_id (left m a)) (map_named (λ (u : ℕ). u) (left m a) kept.index v kept.at))
+
+      at : (place m a v < length (left m a)) × (left_at m a (place m a v) ≡ v)
+      at = t.places.placed v within.0 within.1
+
+      by_variable : (x : Variable) × (slice_get m.variables v ≡ Some x) → InRange (range_at g.ranges i) (ratio (cell (left_nums m a p) i) p.den)
+      by_variable x =
+          subst (λ j. InRange (range_at g.ranges j) (ratio (cell (left_nums m a p) j) p.den)) s.is
+          (subst (λ r. InRange r (ratio (cell (left_nums m a p) (place m a v)) p.den)) (sym (range_is m a g.ranges (place m a v) t.game.ranges at.0 ∙ (ap (range_of m) at.1 ∙ range_of_variable v x.0 x.1)))
+          (subst (λ z. InRange (x.0.low, x.0.high) (ratio z p.den)) (sym (placed_cell m a p v t.places within.0 within.1)) (h v x.0 x.1 kept.passes)))
 
   ranges_up : (p : Point) → ((i : ℕ) → names l.own i ≡ true → InRange (range_at g.ranges i) (ratio (cell (left_nums m a p) i) p.den)) → (v : ℕ) (x : Variable) → slice_get m.variables v ≡ Some x → owns m a leader v ≡ true → MeetsBounds p v x
-  ranges_up p h v x at own = go (decided (is_defined m a v))
+  ranges_up p h v x at own = go (cases_Bool (is_defined m a v))
     where
       below : v < length m.variables
       below = slice_get_within m.variables v x at
@@ -156,8 +111,9 @@ module _ (n : ℤ) (m : Model) (a : Annot) (g : Game) (t : AreTied n m a g) (bil
       go (inr d) =
           let i = place m a v in
           let stands = t.places.placed v below d in
-          let named : names (left m a) v ≡ true = ap (names (left m a)) (sym stands.1) ∙ names_at (left m a) i stands.0 in
-          let mine : names l.own i ≡ true = ap (λ (vs : List ℕ). names vs i) is.own ∙ names_map (place m a) (leader_own m a) v (names_filter (λ u. owns m a leader u) (left m a) v own named) in
+          let named = map_source (λ (u : ℕ). u) (left m a) v (subst (λ us. names us v ≡ true) (sym (map_id (left m a))) (left_named m a v below d)) in
+          let found = filter_has (λ u. owns m a leader u) (left m a) named.index v (named.at ∙ ap Some named.is) own in
+          let mine : names l.own i ≡ true = ap (λ (vs : List ℕ). names vs i) is.own ∙ map_named (place m a) (leader_own m a) found.index v found.at in
           subst (λ z. InRange (x.low, x.high) (ratio z p.den)) (placed_cell m a p v t.places below d)
           (subst (λ r. InRange r (ratio (cell (left_nums m a p) i) p.den)) (range_is m a g.ranges i t.game.ranges stands.0 ∙ (ap (range_of m) stands.1 ∙ range_of_variable v x at)) (h i mine))
 
@@ -212,7 +168,7 @@ module _ (n : ℤ) (m : Model) (a : Annot) (g : Game) (t : AreTied n m a g) (bil
   goal_linear s w o = subst (λ x. IsLinear (signed_for x (given_form m a leader))) (sym o) (signed_linear s (given_form m a leader) (t.class.leads bilevel))
 
   no_upper : (f : Form) → IsLinear f → (i j : ℕ) → upper f.square i j ≡ pos 0
-  no_upper f h i j = go (decided (nat_lt j i))
+  no_upper f h i j = go (cases_Bool (nat_lt j i))
     where
       go : (nat_lt j i ≡ true) ⊎ (nat_lt j i ≡ false) → upper f.square i j ≡ pos 0
       go (inl s) = ap (λ b. cond b (pos 0) (f.square i j)) s

@@ -1,7 +1,7 @@
 -- The constraints of a party and their rules, one by one; a point meets the ones exactly where its coordinates obey the others.
 use Rattle.std.proofs.Common.{◌≡◌, ◌⊎◌, inl, inr, ℕ, ℤ, true, false, ◌||◌, nat_eq, List, [], ◌∷◌, Some, sym, ap, subst, ◌∙◌}
 use Rattle.std.specs.Prelude.{slice_get}
-use Rattle.std.proofs.lemmas.Bool.{eqb-true, false≢true}
+use Rattle.std.proofs.lemmas.Bool.{eqb-true, false≢true, cases_Bool}
 use Rattle.emp_num.specs.Point.{Point}
 use Rattle.emp_ast.specs.declared.tree.EquId.{EquId}
 use Rattle.emp_ast.specs.declared.model.Equation.{Equation}
@@ -17,7 +17,7 @@ use Rattle.emp_problem.specs.GameOf.{AreRulesOf}
 use Rattle.emp_problem.specs.Class.{IsClassFile}
 use Rattle.emp_meaning.specs.Laws.{left_nums}
 use Rattle.emp_meaning.specs.Ties.{IsParty, Values}
-use Rattle.emp_meaning.proofs.PriceLists.{decided, EachListed, constraints_listed, constraint_named}
+use Rattle.emp_meaning.proofs.PriceLists.{EachListed, constraints_listed, constraint_named}
 
 module _ (n : ℤ) (m : Model) (a : Annot) (k : Party) (party : IsParty a k) (class : IsClassFile m a) (values : Values n m a) where
   listed_down : (p : Point) → Fits m p → EachConstraint m a k (λ e q. MeetsEquation p q) → (es : List EquId) (rs : List Rule) → AreRulesOf n m (left m a) es rs → EachListed m a k es → Obeys rs p.den (left_nums m a p)
@@ -35,7 +35,7 @@ module _ (n : ℤ) (m : Model) (a : Annot) (k : Party) (party : IsParty a k) (cl
   listed_up p f [] [] ro l o e h q at = absurd (false≢true h)
   listed_up p f [] (r ∷ rs) ro l o e h q at = absurd ro
   listed_up p f (x ∷ es) [] ro l o e h q at = absurd ro
-  listed_up p f (x ∷ es) (r ∷ rs) ro l o e h q at = go (decided (nat_eq x.at e)) (λ s. listed_up p f es rs ro.1 l.1 o.1 e s q at)
+  listed_up p f (x ∷ es) (r ∷ rs) ro l o e h q at = go (cases_Bool (nat_eq x.at e)) (λ s. listed_up p f es rs ro.1 l.1 o.1 e s q at)
     where
       go : (nat_eq x.at e ≡ true) ⊎ (nat_eq x.at e ≡ false) → (names_equation es e ≡ true → MeetsEquation p q) → MeetsEquation p q
       go (inl s) rest =

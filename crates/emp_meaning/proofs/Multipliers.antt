@@ -3,7 +3,7 @@ use Rattle.std.proofs.Common.{◌≡◌, ◌⊎◌, inl, inr, ℕ, zero, suc, �
 use Rattle.std.specs.Prelude.{slice_get, slice_index_or, option_map}
 use Rattle.std.specs.List.{filter}
 use Rattle.std.proofs.lemmas.Int.{ints}
-use Rattle.std.proofs.lemmas.Bool.{eqb-true, false≢true}
+use Rattle.std.proofs.lemmas.Bool.{eqb-true, false≢true, cases_Bool}
 use Rattle.std.proofs.lemmas.Option.{slice_get_within}
 use Rattle.std.proofs.lemmas.List.Elements.{All-head, All-tail}
 use Rattle.std.proofs.lemmas.List.Folds.{list_any-append}
@@ -60,7 +60,7 @@ use Rattle.emp_meaning.specs.Laws.{left_nums}
 use Rattle.emp_meaning.specs.Ties.{Places, GapIs, signed_ratio, Values, Deviates}
 use Rattle.emp_meaning.proofs.Move.{IsTied, block_fits, placed_cell}
 use Rattle.emp_meaning.proofs.Deviations.{deviations}
-use Rattle.emp_meaning.proofs.PriceLists.{decided, there_is, Listed, EachListed, constraint_named, constraints_listed, function_affine}
+use Rattle.emp_meaning.proofs.PriceLists.{there_is, Listed, EachListed, constraint_named, constraints_listed, function_affine}
 
 -- ---- values that are there
 value_on : (x : Option Ratio) (y z : Ratio) → SameValue x (Some y) → SameFraction y z → SameValue x (Some z)
@@ -153,7 +153,7 @@ module _ (n : ℤ) (m : Model) (a : Annot) (k : ℕ) (num : ℕ → ℤ) (pn : p
   signed_up p f [] [] ro l s e h q at = absurd (false≢true h)
   signed_up p f [] (r ∷ rs) ro l s e h q at = absurd ro
   signed_up p f (x ∷ es) [] ro l s e h q at = absurd ro
-  signed_up p f (x ∷ es) (r ∷ rs) ro l s e h q at = go (decided (nat_eq x.at e)) (λ w. signed_up p f es rs ro.1 l.1 s.2 e w q at)
+  signed_up p f (x ∷ es) (r ∷ rs) ro l s e h q at = go (cases_Bool (nat_eq x.at e)) (λ w. signed_up p f es rs ro.1 l.1 s.2 e w q at)
     where
       go : (nat_eq x.at e ≡ true) ⊎ (nat_eq x.at e ≡ false) → (names_equation es e ≡ true → IsMultiplier q.relation (sides_gap p q) (ratio (num e) p.den)) → IsMultiplier q.relation (sides_gap p q) (ratio (num e) p.den)
       go (inl w) rest =
@@ -286,7 +286,7 @@ pub counted_flow : (m : Model) (a : Annot) (k : ℕ) (zeros : List VarId) (pairs
 counted_flow m a k zeros pairs equs at = ap (counted_by m a k) at ∙ all_counted m a (block k) (ap block_objective at) (zeros ++ map (λ q. q.1) pairs)
 
 flow_stays : (m : Model) (a : Annot) (k v : ℕ) → Places m a → k < length a.blocks → objective m a (block k) ≡ None → v < length m.variables → owns m a (block k) v ≡ true → is_defined m a v ≡ false
-flow_stays m a k v places l none below own = go (decided (is_defined m a v))
+flow_stays m a k v places l none below own = go (cases_Bool (is_defined m a v))
   where
     go : (is_defined m a v ≡ true) ⊎ (is_defined m a v ≡ false) → is_defined m a v ≡ false
     go (inl h) = absurd (false≢true (sym (not_defined m a (block k) v none) ∙ places.own (block k) v l below own h))

@@ -1,15 +1,13 @@
 -- Which coordinates a player owns, and their ranges.
-use Rattle.std.proofs.Common.{◌≡◌, ◌⊎◌, inl, inr, ℕ, zero, suc, ◌+◌, ◌<◌, ℤ, Bool, true, false, not, nat_eq, List, [], ◌∷◌, All, map, length, Some, arith, refl, sym, ap, subst, ◌∙◌}
+use Rattle.std.proofs.Common.{◌≡◌, ◌⊎◌, inl, inr, ℕ, ◌<◌, ℤ, Bool, true, false, not, nat_eq, List, [], ◌∷◌, All, map, length, Some, refl, sym, ap, subst, ◌∙◌}
 use Rattle.std.specs.Prelude.{slice_get, filter}
 use Rattle.std.specs.List.{list_any}
 use Rattle.std.proofs.lemmas.Bool.{eqb-true, eq-eqb, not-true, not_from_false, or_cases, false≢true, false_from_ne_true}
-use Rattle.std.proofs.lemmas.Option.{slice_get_within, get_or_from_slice_get}
-use Rattle.std.proofs.lemmas.List.{get_or-map}
-use Rattle.std.proofs.lemmas.List.Elements.{All-head, All-tail, All-get_or}
+use Rattle.std.proofs.lemmas.Option.{slice_get_within}
+use Rattle.std.proofs.lemmas.List.Elements.{All-head, All-tail}
 use Rattle.std.proofs.lemmas.List.Folds.{list_any-append}
 use Rattle.emp_ast.specs.declared.tree.VarId.{VarId}
 use Rattle.emp_ast.specs.declared.tree.EquId.{EquId}
-use Rattle.emp_ast.specs.declared.model.End.TheVariants.{Open}
 use Rattle.emp_ast.specs.declared.model.Model.{Model}
 use Rattle.emp_ast.specs.declared.annot.Block.{Block}
 use Rattle.emp_ast.specs.declared.annot.Block.TheVariants.{Agent, Vi}
@@ -19,38 +17,13 @@ use Rattle.emp_ast.specs.Convex.{counted_by}
 use Rattle.emp_owner.proofs.Lists.{any_map}
 use Rattle.emp_game.specs.Game.{Player, Ranges, range_at, names}
 use Rattle.emp_game.specs.Game as TheGame
-use Rattle.emp_split.specs.Games.{Game}
-use Rattle.emp_problem.specs.Left.{left, place, range_of}
-use Rattle.emp_problem.specs.GameOf.{IsPlayerOf, ArePlayersOf, IsGameOf}
+use Rattle.emp_problem.specs.Left.{left, place}
+use Rattle.emp_problem.specs.GameOf.{IsPlayerOf}
 use Rattle.emp_problem.specs.Class.{VariablesFit, BlockFits, IsClassFile}
 use Rattle.emp_meaning.specs.Ties.{left_at, Places, Owners}
 use Rattle.emp_meaning.proofs.TieLists.{same_truth, any_at, any_source, map_source, map_named, filter_source, filter_has}
 use Rattle.emp_meaning.proofs.Places.{party_defines, places}
-
--- ---- the blocks of the players
-pub record PlayerAt (n : ℤ) (m : Model) (a : Annot) (k : ℕ) (pl : Player) : Type 0 where
-  pub choosing : Block
-  pub at : slice_get a.blocks k ≡ Some choosing
-  pub player : IsPlayerOf n m a k choosing pl
-
-players_from : (n : ℤ) (m : Model) (a : Annot) (P : ℕ → Block → Type 0) (j : ℕ) (bs : List Block) (pls : List Player) (i : ℕ) (pl : Player) → ArePlayersOf n m a j bs pls → slice_get pls i ≡ Some pl → ((b : Block) → slice_get bs i ≡ Some b → IsPlayerOf n m a (j + i) b pl → P (j + i) b) → (b : Block) × P (j + i) b
-players_from n m a P j [] [] i pl h at f = cc
-players_from n m a P j [] (q ∷ qs) i pl h at f = absurd h
-players_from n m a P j (b ∷ bs) [] i pl h at f = absurd h
-players_from n m a P j (b ∷ bs) (q ∷ qs) zero pl h at f =
-    let same : q ≡ pl = cc in
-    let none : j ≡ j + 0 = omega arith in
-    (b, f b refl (subst (λ k. IsPlayerOf n m a k b pl) none (subst (λ x. IsPlayerOf n m a j b x) same h.0)))
-players_from n m a P j (b ∷ bs) (q ∷ qs) (suc i) pl h at f =
-    let more : suc j + i ≡ j + suc i = omega arith in
-    let r = players_from n m a P (suc j) bs qs i pl h.1 at (λ c e l. subst (λ k. P k c) (sym more) (f c e (subst (λ k. IsPlayerOf n m a k c pl) more l))) in
-    (r.0, subst (λ k. P k r.0) more r.1)
-
-pub player_at : (n : ℤ) (m : Model) (a : Annot) (g : Game) → IsGameOf n m a g → (k : ℕ) (pl : Player) → slice_get g.players k ≡ Some pl → PlayerAt n m a k pl
-player_at n m a g game k pl at =
-    let r = players_from n m a (λ i b. (slice_get a.blocks k ≡ Some b) × IsPlayerOf n m a i b pl) 0 a.blocks g.players k pl game.players at (λ b e l. (e, l)) in
-    let none : 0 + k ≡ k = omega arith in
-    record { choosing = r.0; at = r.1.0; player = subst (λ i. IsPlayerOf n m a i r.0 pl) none r.1.1 }
+use Rattle.emp_meaning.proofs.Move.{block_fits}
 
 -- ---- the variables of a block are the model's
 variables_fit : (n : ℕ) (vs : List VarId) (v : ℕ) → VariablesFit n vs → names_variable vs v ≡ true → v < n
@@ -81,10 +54,6 @@ block_fit n e (Vi zeros pairs equs) v fit h = go (or_cases (names_variable zeros
     go (inl s) = variables_fit n zeros v fit.0 s
     go (inr s) = pairs_fit n e pairs v fit.1 (sym (any_map (λ x. nat_eq x.at v) (λ (q : EquId × VarId). q.1) pairs) ∙ s)
 
-pub block_at_fits : (m : Model) (a : Annot) (k : ℕ) (b : Block) → IsClassFile m a → slice_get a.blocks k ≡ Some b → BlockFits (length m.variables) (length m.equations) b
-block_at_fits m a k b class at =
-    subst (λ x. BlockFits (length m.variables) (length m.equations) x) (get_or_from_slice_get a.blocks k b b at) (All-get_or (BlockFits (length m.variables) (length m.equations)) a.blocks k b (slice_get_within a.blocks k b at) class.fits.blocks)
-
 -- ---- what a player owns
 module _ (n : ℤ) (m : Model) (a : Annot) (class : IsClassFile m a) (k : ℕ) (b : Block) (pl : Player) (at : slice_get a.blocks k ≡ Some b) (player : IsPlayerOf n m a k b pl) where
   there : Places m a
@@ -112,7 +81,7 @@ module _ (n : ℤ) (m : Model) (a : Annot) (class : IsClassFile m a) (k : ℕ) (
       let s = map_source (λ (v : VarId). place m a v.at) (filter keeps (block_variables b)) i (sym (ap (λ js. names js i) own_is) ∙ h) in
       let f = filter_source keeps (block_variables b) s.index s.entry s.at in
       let o : names_variable (block_variables b) s.entry.at ≡ true = any_at (λ (x : VarId). nat_eq x.at s.entry.at) (block_variables b) f.index s.entry f.at (eq-eqb s.entry.at s.entry.at refl) in
-      let w : s.entry.at < length m.variables = block_fit (length m.variables) (length m.equations) b s.entry.at (block_at_fits m a k b class at) o in
+      let w : s.entry.at < length m.variables = block_fit (length m.variables) (length m.equations) b s.entry.at (block_fits m a k b class at) o in
       record {
         variable = s.entry.at;
         owned = o;
@@ -145,9 +114,3 @@ module _ (n : ℤ) (m : Model) (a : Annot) (class : IsClassFile m a) (k : ℕ) (
               let o = own_left i h in
               let same : left_at m a i ≡ o.variable = ap (left_at m a) (sym o.is) ∙ (there.placed o.variable o.within o.free).1 in
               ap (names_variable (block_variables b)) same ∙ o.owned
-
-pub owners : (n : ℤ) (m : Model) (a : Annot) (g : Game) → IsClassFile m a → IsGameOf n m a g → (k : ℕ) (pl : Player) → slice_get g.players k ≡ Some pl → Owners m a k pl
-owners n m a g class game k pl at = let p = player_at n m a g game k pl at in player_owners n m a class k p.choosing pl p.at p.player
-
-pub ranges_are : (n : ℤ) (m : Model) (a : Annot) (g : Game) → IsGameOf n m a g → (i : ℕ) → i < length (left m a) → range_at g.ranges i ≡ range_of m (left_at m a i)
-ranges_are n m a g game i l = ap (λ (rs : Ranges). range_at rs i) game.ranges ∙ get_or-map (range_of m) (left m a) i 0 (Open, Open) l

@@ -1,11 +1,10 @@
 -- The constraints of a party: each has its equation and is affine, and their list names them all.
 use Rattle.std.proofs.Common.{◌≡◌, ◌⊎◌, inl, inr, ℕ, zero, suc, ◌+◌, ◌<◌, Bool, true, false, ◌&&◌, ◌||◌, not, cond, nat_eq, List, [], ◌∷◌, All, map, length, Option, Some, None, arith, refl, sym, ap, subst, ◌∙◌}
 use Rattle.std.specs.Prelude.{slice_get}
-use Rattle.std.specs.List.{list_any, filter}
-use Rattle.std.proofs.lemmas.Bool.{eqb-true, and_from, false≢true}
+use Rattle.std.specs.List.{filter}
+use Rattle.std.proofs.lemmas.Bool.{eqb-true, and_from, false≢true, cases_Bool}
 use Rattle.std.proofs.lemmas.Option.{slice_get_within, get_or_from_slice_get}
 use Rattle.std.proofs.lemmas.List.Elements.{All-nil, All-cons, All-head, All-tail, All-append, All-map, All-filter, All-weaker}
-use Rattle.std.proofs.lemmas.List.Folds.{list_any_at}
 use Rattle.emp_ast.specs.declared.tree.EquId.{EquId}
 use Rattle.emp_ast.specs.declared.model.Equation.{Equation}
 use Rattle.emp_ast.specs.declared.model.Model.{Model}
@@ -17,13 +16,7 @@ use Rattle.emp_split.proofs.Each.{or_first, or_second}
 use Rattle.emp_problem.specs.Class.{BlockFits, some_block_constrains, is_function, is_affine, IsClassFile}
 use Rattle.emp_meaning.specs.Ties.{IsParty}
 use Rattle.emp_meaning.proofs.Move.{block_fits}
-
-pub decided : (b : Bool) → (b ≡ true) ⊎ (b ≡ false)
-decided true = inl refl
-decided false = inr refl
-
-pub any_here : {X : Type 0} (test : X → Bool) (xs : List X) (i : ℕ) (x : X) → slice_get xs i ≡ Some x → test x ≡ true → list_any test xs ≡ true
-any_here test xs i x h t = list_any_at test xs i x (slice_get_within xs i x h) (ap test (get_or_from_slice_get xs i x x h) ∙ t)
+use Rattle.emp_meaning.proofs.TieLists.{any_at}
 
 pub all_here : {X : Type 0} (P : X → Type 0) (xs : List X) (i : ℕ) (x : X) → slice_get xs i ≡ Some x → All P xs → P x
 all_here P xs i x h all = subst P (get_or_from_slice_get xs i x x h) (all i x (slice_get_within xs i x h))
@@ -50,7 +43,7 @@ constraint_affine m a (block k) e p h =
 pub function_affine : (m : Model) (a : Annot) (k : ℕ) (b : Block) (e : ℕ) → slice_get a.blocks k ≡ Some b → names_equation (functions b) e ≡ true → is_affine m a e ≡ true
 function_affine m a k b e at h =
     or_second (some_block_constrains m a e (length a.blocks)) ((a.bilevel && is_constraint m a leader e) || is_function a e)
-    (or_second (a.bilevel && is_constraint m a leader e) (is_function a e) (any_here (λ c. names_equation (functions c) e) a.blocks k b at h))
+    (or_second (a.bilevel && is_constraint m a leader e) (is_function a e) (any_at (λ c. names_equation (functions c) e) a.blocks k b at h))
 
 -- ---- the equations of a party are there
 abbrev Below : ℕ → EquId → Type 0
@@ -114,7 +107,7 @@ constraints_listed m a class k p = listed_filter m a k p (equations m a k) (equa
 -- ---- what the list names
 named_filter : (test : ℕ → Bool) (es : List EquId) (e : ℕ) → test e ≡ true → names_equation es e ≡ true → names_equation (filter (λ x. test x.at) es) e ≡ true
 named_filter test [] e t h = h
-named_filter test (x ∷ es) e t h = go (decided (nat_eq x.at e)) (decided (test x.at)) (λ s. named_filter test es e t s)
+named_filter test (x ∷ es) e t h = go (cases_Bool (nat_eq x.at e)) (cases_Bool (test x.at)) (λ s. named_filter test es e t s)
   where
     go : (nat_eq x.at e ≡ true) ⊎ (nat_eq x.at e ≡ false) → (test x.at ≡ true) ⊎ (test x.at ≡ false) → (names_equation es e ≡ true → names_equation (filter (λ y. test y.at) es) e ≡ true) → names_equation (filter (λ y. test y.at) (x ∷ es)) e ≡ true
     go (inl s) (inl w) rest = ap (λ b. names_equation (cond b (x ∷ filter (λ y. test y.at) es) (filter (λ y. test y.at) es)) e) w ∙ or_first (nat_eq x.at e) (names_equation (filter (λ y. test y.at) es) e) s
@@ -132,7 +125,7 @@ constraint_named m a k e h = named_filter (λ x. is_constraint m a k x) (equatio
 
 pub named_listed : (m : Model) (a : Annot) (k : Party) (es : List EquId) (e : ℕ) → EachListed m a k es → names_equation es e ≡ true → Listed m a k e
 named_listed m a k [] e l h = absurd (false≢true h)
-named_listed m a k (x ∷ es) e l h = go (decided (nat_eq x.at e)) (λ s. named_listed m a k es e l.1 s)
+named_listed m a k (x ∷ es) e l h = go (cases_Bool (nat_eq x.at e)) (λ s. named_listed m a k es e l.1 s)
   where
     go : (nat_eq x.at e ≡ true) ⊎ (nat_eq x.at e ≡ false) → (names_equation es e ≡ true → Listed m a k e) → Listed m a k e
     go (inl s) rest = subst (λ i. Listed m a k i) (eqb-true x.at e s) l.0

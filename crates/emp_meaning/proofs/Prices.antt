@@ -1,11 +1,10 @@
 -- The prices of a file are those of its game, over one denominator.
-use Rattle.std.proofs.Common.{◌≡◌, ◌⊎◌, inl, inr, ℕ, zero, suc, ◌+◌, ◌<◌, ◌≤◌, ℤ, pos, negsuc, ◌*ℤ◌, ◌<ℤ◌, Bool, true, false, ◌&&◌, ◌||◌, not, cond, nat_eq, List, [], ◌∷◌, map, length, get_or, Option, Some, None, arith, refl, sym, ap, ap₂, subst, ◌∙◌}
+use Rattle.std.proofs.Common.{◌≡◌, ◌⊎◌, inl, inr, ℕ, zero, suc, ◌+◌, ◌<◌, ℤ, pos, negsuc, ◌*ℤ◌, ◌<ℤ◌, Bool, true, false, ◌&&◌, ◌||◌, not, cond, nat_eq, List, [], ◌∷◌, map, length, get_or, Option, Some, None, arith, refl, sym, ap, ap₂, subst, ◌∙◌}
 use Rattle.std.specs.Prelude.{slice_get, is_some, nat_le, unwrap_or}
 use Rattle.std.specs.List.{list_any, count_by}
 use Rattle.std.proofs.lemmas.Int.{ints}
-use Rattle.std.proofs.lemmas.Bool.{eqb-true, false≢true}
+use Rattle.std.proofs.lemmas.Bool.{eqb-true, false≢true, cases_Bool}
 use Rattle.std.proofs.lemmas.Option.{same_Some, slice_get_within}
-use Rattle.std.proofs.lemmas.List.Sums.{sum_by-cons}
 use Rattle.std.proofs.lemmas.List.Folds.{list_any_none}
 use Rattle.emp_algebra.proofs.Ring.{var, ◌⊗◌, by_ring}
 use Rattle.emp_algebra.proofs.Laws.{mul_pos}
@@ -41,10 +40,11 @@ use Rattle.emp_problem.specs.GameOf.{AreRulesOf, IsPlayerOf, IsGameOf}
 use Rattle.emp_problem.specs.Class.{IsClassFile}
 use Rattle.emp_meaning.specs.Laws.{left_nums}
 use Rattle.emp_meaning.specs.Ties.{Places, Owners, Values}
-use Rattle.emp_meaning.proofs.PriceLists.{decided, any_here, all_here, there_is, Listed, EachListed, constraints_listed, constraint_named, named_listed}
+use Rattle.emp_meaning.proofs.PriceLists.{all_here, there_is, Listed, EachListed, constraints_listed, constraint_named, named_listed}
 use Rattle.emp_meaning.proofs.Move.{IsTied, placed_cell, named_passes}
 use Rattle.emp_meaning.proofs.MoveGame.{each_player, its_player, tied_by}
 use Rattle.emp_meaning.proofs.Multipliers.{multipliers_down, multipliers_up}
+use Rattle.emp_meaning.proofs.TieLists.{one_if, count_cons, any_at, count_any}
 
 -- ---- one denominator
 -- times is a multiple of each f below n
@@ -65,7 +65,7 @@ common (suc n) f h = more (common n f h)
         part i = cond (nat_eq i n) c.times (c.part i *ℤ f n)
 
         is : (i : ℕ) → i < suc n → part i *ℤ f i ≡ c.times *ℤ f n
-        is i l = go (decided (nat_eq i n))
+        is i l = go (cases_Bool (nat_eq i n))
           where
             go : (nat_eq i n ≡ true) ⊎ (nat_eq i n ≡ false) → part i *ℤ f i ≡ c.times *ℤ f n
             go (inl s) = ap (λ b. cond b c.times (c.part i *ℤ f n) *ℤ f i) s ∙ ap (λ j. c.times *ℤ f j) (eqb-true i n s)
@@ -133,7 +133,7 @@ dual_pairs m a ds = map (λ d. (place m a d.0.at, d.1.at)) ds
 
 duals_name : (m : Model) (a : Annot) (ds : List (VarId × EquId)) (e : ℕ) → is_some (dual_of (dual_pairs m a ds) e) ≡ list_any (λ d. nat_eq d.1.at e) ds
 duals_name m a [] e = refl
-duals_name m a (d ∷ ds) e = go (decided (nat_eq d.1.at e)) (duals_name m a ds e)
+duals_name m a (d ∷ ds) e = go (cases_Bool (nat_eq d.1.at e)) (duals_name m a ds e)
   where
     go : (nat_eq d.1.at e ≡ true) ⊎ (nat_eq d.1.at e ≡ false) → is_some (dual_of (dual_pairs m a ds) e) ≡ list_any (λ x. nat_eq x.1.at e) ds → is_some (dual_of (dual_pairs m a (d ∷ ds)) e) ≡ list_any (λ x. nat_eq x.1.at e) (d ∷ ds)
     go (inl s) rest = ap (λ b. is_some (cond b (Some (place m a d.0.at)) (dual_of (dual_pairs m a ds) e))) s ∙ sym (ap (λ b. b || list_any (λ x. nat_eq x.1.at e) ds) s)
@@ -148,7 +148,7 @@ pub record DualFound (m : Model) (a : Annot) (ds : List (VarId × EquId)) (e k :
 
 pub dual_found : (m : Model) (a : Annot) (ds : List (VarId × EquId)) (e k : ℕ) → dual_of (dual_pairs m a ds) e ≡ Some k → DualFound m a ds e k
 dual_found m a [] e k h = absurd (false≢true (ap is_some h))
-dual_found m a (d ∷ ds) e k h = go (decided (nat_eq d.1.at e)) (λ s. dual_found m a ds e k s)
+dual_found m a (d ∷ ds) e k h = go (cases_Bool (nat_eq d.1.at e)) (λ s. dual_found m a ds e k s)
   where
     go : (nat_eq d.1.at e ≡ true) ⊎ (nat_eq d.1.at e ≡ false) → (dual_of (dual_pairs m a ds) e ≡ Some k → DualFound m a ds e k) → DualFound m a (d ∷ ds) e k
     go (inl s) rest = record {
@@ -164,29 +164,18 @@ dual_found m a (d ∷ ds) e k h = go (decided (nat_eq d.1.at e)) (λ s. dual_fou
         later f = record { index = suc f.index; pair = f.pair; at = f.at; equation = f.equation; coordinate = f.coordinate }
 
 -- an equation with one dual variable has it by its first pair
-pub counted_more : {X : Type 0} (test : X → Bool) (x : X) (xs : List X) (b : Bool) → test x ≡ b → count_by test (x ∷ xs) ≡ cond b 1 0 + count_by test xs
-counted_more test x xs b h = sum_by-cons (λ y. cond (test y) 1 0) x xs ∙ ap (λ c. cond c 1 0 + count_by test xs) h
-
-pub counted_once : {X : Type 0} (test : X → Bool) (xs : List X) (i : ℕ) (x : X) → slice_get xs i ≡ Some x → test x ≡ true → 1 ≤ count_by test xs
-counted_once test [] i x at t = absurd (let l = slice_get_within [] i x at in omega arith)
-counted_once test (y ∷ xs) zero x at t = let e : count_by test (y ∷ xs) ≡ 1 + count_by test xs = counted_more test y xs true (ap test (same_Some y x at) ∙ t) in omega arith
-counted_once test (y ∷ xs) (suc i) x at t =
-    let l = counted_once test xs i x at t in
-    let e : count_by test (y ∷ xs) ≡ cond (test y) 1 0 + count_by test xs = counted_more test y xs (test y) refl in
-    omega arith
-
-dual_is : (m : Model) (a : Annot) (ds : List (VarId × EquId)) (e i : ℕ) (d : VarId × EquId) → count_by (λ x. nat_eq x.1.at e) ds < 2 → slice_get ds i ≡ Some d → nat_eq d.1.at e ≡ true → dual_of (dual_pairs m a ds) e ≡ Some (place m a d.0.at)
+pub dual_is : (m : Model) (a : Annot) (ds : List (VarId × EquId)) (e i : ℕ) (d : VarId × EquId) → count_by (λ x. nat_eq x.1.at e) ds < 2 → slice_get ds i ≡ Some d → nat_eq d.1.at e ≡ true → dual_of (dual_pairs m a ds) e ≡ Some (place m a d.0.at)
 dual_is m a [] e i d c at t = absurd (let l = slice_get_within [] i d at in omega arith)
 dual_is m a (x ∷ ds) e zero d c at t = ap (λ b. cond b (Some (place m a x.0.at)) (dual_of (dual_pairs m a ds) e)) (ap (λ y. nat_eq y.1.at e) (same_Some x d at) ∙ t) ∙ ap (λ y. Some (place m a y.0.at)) (same_Some x d at)
-dual_is m a (x ∷ ds) e (suc i) d c at t = go (decided (nat_eq x.1.at e)) (λ k. dual_is m a ds e i d k at t)
+dual_is m a (x ∷ ds) e (suc i) d c at t = go (cases_Bool (nat_eq x.1.at e)) (λ k. dual_is m a ds e i d k at t)
   where
     go : (nat_eq x.1.at e ≡ true) ⊎ (nat_eq x.1.at e ≡ false) → (count_by (λ y. nat_eq y.1.at e) ds < 2 → dual_of (dual_pairs m a ds) e ≡ Some (place m a d.0.at)) → dual_of (dual_pairs m a (x ∷ ds)) e ≡ Some (place m a d.0.at)
     go (inl s) rest =
-        let two : count_by (λ y. nat_eq y.1.at e) (x ∷ ds) ≡ 1 + count_by (λ y. nat_eq y.1.at e) ds = counted_more (λ y. nat_eq y.1.at e) x ds true s in
-        let one = counted_once (λ y. nat_eq y.1.at e) ds i d at t in
+        let two : count_by (λ y. nat_eq y.1.at e) (x ∷ ds) ≡ 1 + count_by (λ y. nat_eq y.1.at e) ds = count_cons (λ y. nat_eq y.1.at e) x ds ∙ ap (λ b. one_if b + count_by (λ y. nat_eq y.1.at e) ds) s in
+        let one = count_any (λ y. nat_eq y.1.at e) ds (any_at (λ y. nat_eq y.1.at e) ds i d at t) in
         absurd (omega arith)
     go (inr s) rest =
-        let same : count_by (λ y. nat_eq y.1.at e) (x ∷ ds) ≡ 0 + count_by (λ y. nat_eq y.1.at e) ds = counted_more (λ y. nat_eq y.1.at e) x ds false s in
+        let same : count_by (λ y. nat_eq y.1.at e) (x ∷ ds) ≡ 0 + count_by (λ y. nat_eq y.1.at e) ds = count_cons (λ y. nat_eq y.1.at e) x ds ∙ ap (λ b. one_if b + count_by (λ y. nat_eq y.1.at e) ds) s in
         ap (λ b. cond b (Some (place m a x.0.at)) (dual_of (dual_pairs m a ds) e)) s ∙ rest (omega arith)
 
 -- ---- a dual variable is left
@@ -210,7 +199,7 @@ dual_undefined m a k v h = go (objective m a k) refl
 
     go : (o : Option (Sense × ℕ)) → objective m a k ≡ o → is_defined_by m a k v o ≡ false
     go None o = refl
-    go (Some w) o = by_name (decided (nat_eq w.1 v))
+    go (Some w) o = by_name (cases_Bool (nat_eq w.1 v))
       where
         by_name : (nat_eq w.1 v ≡ true) ⊎ (nat_eq w.1 v ≡ false) → nat_eq w.1 v && list_any (λ e. defines m a k e.at) (equations m a k) ≡ false
         by_name (inl s) =
@@ -309,8 +298,8 @@ module _ (n : ℤ) (m : Model) (a : Annot) (g : Game) (t : AreTied n m a g) wher
             let l = slice_get_within a.blocks k b at in
             let constraint = (rule_listed k b pl at is e r).is in
             let v = x.pair.0.at in
-            let is_one : is_dual a v ≡ true = any_here (λ y. nat_eq y.0.at v) a.duals x.index x.pair x.at (eqb_refl v) in
-            let has_one : has_dual a e ≡ true = any_here (λ y. nat_eq y.1.at e) a.duals x.index x.pair x.at (ap (λ i. nat_eq i e) x.equation ∙ eqb_refl e) in
+            let is_one : is_dual a v ≡ true = any_at (λ y. nat_eq y.0.at v) a.duals x.index x.pair x.at (eqb_refl v) in
+            let has_one : has_dual a e ≡ true = any_at (λ y. nat_eq y.1.at e) a.duals x.index x.pair x.at (ap (λ i. nat_eq i e) x.equation ∙ eqb_refl e) in
             let w = priced_by k e constraint (or_first (has_dual a e) (names_equation a.visols e) has_one) in
             let below = (all_here (λ y. (y.0.at < length m.variables) × (y.1.at < length m.equations)) a.duals x.index x.pair x.at t.class.fits.duals).0 in
             let there : cell (left_nums m a p) c ≡ cell p.nums v = ap (cell (left_nums m a p)) x.coordinate ∙ placed_cell m a p v t.places below (dual_left m a v is_one) in
@@ -344,7 +333,7 @@ module _ (n : ℤ) (m : Model) (a : Annot) (g : Game) (t : AreTied n m a g) wher
     Shares k pl = (e : ℕ) → has_rule pl.rules e ≡ true → whole.number k e ≡ whole.number (holder g k e) e
 
     down_shared : (k : ℕ) (pl : Player) → Constrains k pl × ((e : ℕ) → has_rule pl.rules e ≡ true → some_has g.players e ≡ true) → Shares k pl
-    down_shared k pl c e r = go (decided (names g.visols e))
+    down_shared k pl c e r = go (cases_Bool (names g.visols e))
       where
         first : names g.visols e ≡ true → Found Constrains (first_with 0 g.players e) e → whole.number k e ≡ whole.number (holder g k e) e
         first v x = same_numbers k (first_with 0 g.players e) e c.0.0 x.holds.0 (sym (visol_same e) ∙ v) (c.0.1 e r) (x.holds.1 e x.has) ∙ ap (λ i. whole.number i e) (sym (holder_first g k e v))
@@ -392,7 +381,7 @@ module _ (n : ℤ) (m : Model) (a : Annot) (g : Game) (t : AreTied n m a g) wher
         go b =
             let x = its_player n m a g (λ j pl. (e v : ℕ) → has_rule pl.rules e ≡ true → dual_of g.duals e ≡ Some v → number j e ≡ times *ℤ cell (left_nums m a p) v) k b.0 t.game h.duals b.1 in
             let below = all_here (λ y. (y.0.at < length m.variables) × (y.1.at < length m.equations)) a.duals i c at t.class.fits.duals in
-            let is_one : is_dual a c.0.at ≡ true = any_here (λ y. nat_eq y.0.at c.0.at) a.duals i c at (eqb_refl c.0.at) in
+            let is_one : is_dual a c.0.at ≡ true = any_at (λ y. nat_eq y.0.at c.0.at) a.duals i c at (eqb_refl c.0.at) in
             let found : dual_of g.duals c.1.at ≡ Some (place m a c.0.at) = ap (λ (ds : List (ℕ × ℕ)). dual_of ds c.1.at) t.game.duals ∙ dual_is m a a.duals c.1.at i c (one_dual c.1.at below.1) at (eqb_refl c.1.at) in
             let there : number k c.1.at ≡ times *ℤ cell p.nums c.0.at = x.holds c.1.at (place m a c.0.at) (constraint_rule k b.0 x.player x.of c.1.at is) found ∙ ap (λ z. times *ℤ z) (placed_cell m a p c.0.at t.places below.0 (dual_left m a c.0.at is_one)) in
             ap (λ z. z *ℤ p.den) there ∙ by_ring (times ∷ cell p.nums c.0.at ∷ p.den ∷ []) (var 0 ⊗ var 1 ⊗ var 2) (var 1 ⊗ (var 0 ⊗ var 2)) refl
