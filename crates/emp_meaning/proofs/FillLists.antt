@@ -40,10 +40,6 @@ count_filter test keep (x ∷ xs) = go (cases_Bool (keep x)) (count_filter test 
         omega (arith, kept, all, rest)
 
 -- ---- lists that are filtered
-pub filter_all : {X : Type 0} (test : X → Bool) → ((x : X) → test x ≡ true) → (xs : List X) → filter test xs ≡ xs
-filter_all test h [] = refl
-filter_all test h (x ∷ xs) = ap (λ b. cond b (x ∷ filter test xs) (filter test xs)) (h x) ∙ ap (λ ys. x ∷ ys) (filter_all test h xs)
-
 pub all_filter_with : {X : Type 0} (test : X → Bool) (P Q : X → Type 0) → ((x : X) → P x → test x ≡ true → Q x) → (xs : List X) → All P xs → All Q (filter test xs)
 all_filter_with test P Q f xs all = λ i d l.
     let x = get_or (filter test xs) i d in

@@ -1,6 +1,6 @@
 -- Each point of the variables that are left is that of a point that meets the definitions: a defined objective gets the value of
 -- its polynomial.
-use Rattle.std.proofs.Common.{◌≡◌, ℕ, zero, suc, ◌<◌, ℤ, pos, ◌*ℤ◌, ◌<ℤ◌, true, false, cond, nat_eq, List, [], ◌∷◌, map, length, slice_index_or, Option, Some, None, arith, refl, sym, ap, ap₂, subst, ◌∙◌}
+use Rattle.std.proofs.Common.{◌≡◌, ℕ, ◌<◌, ℤ, pos, ◌*ℤ◌, ◌<ℤ◌, true, false, cond, nat_eq, List, [], ◌∷◌, map, length, slice_index_or, Option, Some, None, arith, refl, sym, ap, ap₂, subst, ◌∙◌}
 use Rattle.std.specs.Prelude.{slice_get, ◌&&◌}
 use Rattle.std.proofs.lemmas.Int.{ints}
 use Rattle.std.proofs.lemmas.Bool.{eq-eqb, and_from, and_parts, false≢true, cond-true, cond-false, cond_both}
@@ -30,7 +30,6 @@ use Rattle.emp_form.specs.Form.{Form}
 use Rattle.emp_left.specs.Left.{upper, quadratic_left}
 use Rattle.emp_agents.specs.Given.{given_for, given_form, definition}
 use Rattle.emp_agents.proofs.Given.{given_den}
-use Rattle.emp_game.specs.Conditions.{row_of}
 use Rattle.emp_problem.specs.Left.{left, place, signed, signed_for, goal_form}
 use Rattle.emp_problem.specs.GameOf.{IsQuadraticOf}
 use Rattle.emp_problem.specs.Class.{IsClassFile}
@@ -40,16 +39,12 @@ use Rattle.emp_meaning.proofs.MovePoints.{HasCoordinates, with_coordinates}
 use Rattle.emp_meaning.proofs.Move.{block_fits, scaled_same, left_count, left_cell, named_passes, defines_own}
 use Rattle.emp_meaning.proofs.Places.{party_defines}
 use Rattle.emp_meaning.proofs.Deviations.{signed_above, signed_turned, value_level}
+use Rattle.emp_meaning.proofs.TieForms.{row_of_map}
 use Rattle.emp_meaning.proofs.FillOwners.{chosen, chosen_is}
 
 -- ---- the quadratic of a form, times its den
 comm_map : (f : ℕ → ℤ) (vs : List ℕ) (d : ℤ) (i : ℕ) → i < length vs → cell (map f vs) i *ℤ d ≡ d *ℤ f (slice_index_or vs i 0)
 comm_map f vs d i l = ap (λ z. z *ℤ d) (get_or-map f vs i 0 (pos 0) l) ∙ *ℤ_comm (f (slice_index_or vs i 0)) d
-
-row_of-map : (f : ℕ → List ℤ) (vs : List ℕ) (i : ℕ) → i < length vs → row_of (map f vs) i ≡ f (slice_index_or vs i 0)
-row_of-map f [] i l = absurd (omega arith)
-row_of-map f (v ∷ vs) zero l = refl
-row_of-map f (v ∷ vs) (suc i) l = row_of-map f vs i (omega arith)
 
 pub quadratic_of : (vs : List ℕ) (f : Form) → IsQuadraticOf f.den vs f (quadratic_left vs f)
 quadratic_of vs f = record {
@@ -59,7 +54,7 @@ quadratic_of vs f = record {
   rows = length-map vs (λ u. map (λ v. upper f.square u v) vs);
   widths = All-map (λ r. length r ≡ length vs) (λ u. map (λ v. upper f.square u v) vs) vs (λ i d l. length-map vs (λ v. upper f.square (slice_index_or vs i d) v));
   products = λ i j k l.
-      ap (λ r. cell r j *ℤ f.den) (row_of-map (λ u. map (λ v. upper f.square u v) vs) vs i k)
+      ap (λ r. cell r j *ℤ f.den) (row_of_map (λ u. map (λ v. upper f.square u v) vs) vs i k)
       ∙ comm_map (λ v. upper f.square (slice_index_or vs i 0) v) vs f.den j l;
 }
 

@@ -1,7 +1,6 @@
 -- The multipliers of a block are those of its player, over a common denominator.
-use Rattle.std.proofs.Common.{◌≡◌, ◌⊎◌, inl, inr, ℕ, zero, suc, ◌<◌, ℤ, pos, ◌+ℤ◌, ◌*ℤ◌, ◌≤ℤ◌, ◌<ℤ◌, true, false, ◌||◌, not, cond, nat_eq, List, [], ◌∷◌, ◌++◌, All, map, length, Option, Some, None, arith, refl, sym, ap, ap₂, subst, ◌∙◌}
+use Rattle.std.proofs.Common.{◌≡◌, ◌⊎◌, inl, inr, ℕ, zero, suc, ◌<◌, ℤ, pos, ◌+ℤ◌, ◌*ℤ◌, ◌≤ℤ◌, ◌<ℤ◌, true, false, ◌||◌, not, nat_eq, List, [], ◌∷◌, ◌++◌, All, map, length, Option, Some, None, arith, refl, sym, ap, ap₂, subst, ◌∙◌}
 use Rattle.std.specs.Prelude.{slice_get, slice_index_or, option_map}
-use Rattle.std.specs.List.{filter}
 use Rattle.std.proofs.lemmas.Int.{ints}
 use Rattle.std.proofs.lemmas.Bool.{eqb-true, false≢true, cases_Bool}
 use Rattle.std.proofs.lemmas.Option.{slice_get_within}
@@ -61,6 +60,7 @@ use Rattle.emp_meaning.specs.Ties.{Places, GapIs, signed_ratio, Values, Deviates
 use Rattle.emp_meaning.proofs.Move.{IsTied, block_fits, placed_cell}
 use Rattle.emp_meaning.proofs.Deviations.{deviations}
 use Rattle.emp_meaning.proofs.PriceLists.{there_is, Listed, EachListed, constraint_named, constraints_listed, function_affine}
+use Rattle.emp_meaning.proofs.TieLists.{filter_all}
 
 -- ---- values that are there
 value_on : (x : Option Ratio) (y z : Ratio) → SameValue x (Some y) → SameFraction y z → SameValue x (Some z)
@@ -277,13 +277,8 @@ module _ (n : ℤ) (m : Model) (a : Annot) (pn : pos 0 <ℤ n) where
 not_defined : (m : Model) (a : Annot) (k : Party) (v : ℕ) → objective m a k ≡ None → is_defined_of m a k v ≡ false
 not_defined m a k v h = ap (is_defined_by m a k v) h
 
-all_counted : (m : Model) (a : Annot) (k : Party) → objective m a k ≡ None → (vs : List VarId) → filter (λ v. not (is_defined_of m a k v.at)) vs ≡ vs
-all_counted m a k h [] = refl
-all_counted m a k h (v ∷ vs) =
-    ap (λ c. cond (not c) (v ∷ filter (λ x. not (is_defined_of m a k x.at)) vs) (filter (λ x. not (is_defined_of m a k x.at)) vs)) (not_defined m a k v.at h) ∙ ap (λ (xs : List VarId). v ∷ xs) (all_counted m a k h vs)
-
 pub counted_flow : (m : Model) (a : Annot) (k : ℕ) (zeros : List VarId) (pairs : List (EquId × VarId)) (equs : List EquId) → slice_get a.blocks k ≡ Some (Vi zeros pairs equs) → counted m a k ≡ zeros ++ map (λ q. q.1) pairs
-counted_flow m a k zeros pairs equs at = ap (counted_by m a k) at ∙ all_counted m a (block k) (ap block_objective at) (zeros ++ map (λ q. q.1) pairs)
+counted_flow m a k zeros pairs equs at = ap (counted_by m a k) at ∙ filter_all (λ v. not (is_defined_of m a (block k) v.at)) (λ v. ap not (not_defined m a (block k) v.at (ap block_objective at))) (zeros ++ map (λ q. q.1) pairs)
 
 flow_stays : (m : Model) (a : Annot) (k v : ℕ) → Places m a → k < length a.blocks → objective m a (block k) ≡ None → v < length m.variables → owns m a (block k) v ≡ true → is_defined m a v ≡ false
 flow_stays m a k v places l none below own = go (cases_Bool (is_defined m a v))

@@ -157,3 +157,7 @@ filter_has {X} p (y ∷ ys) (suc k) x at h = go (p y) (filter_has p ys k x at h)
     go : (b : Bool) → Index (filter p ys) x → Index (cond b (y ∷ filter p ys) (filter p ys)) x
     go true r = record { index = suc r.index; at = r.at }
     go false r = r
+
+pub filter_all : {X : Type 0} (test : X → Bool) → ((x : X) → test x ≡ true) → (xs : List X) → filter test xs ≡ xs
+filter_all test h [] = refl
+filter_all test h (x ∷ xs) = ap (λ b. cond b (x ∷ filter test xs) (filter test xs)) (h x) ∙ ap (λ ys. x ∷ ys) (filter_all test h xs)

@@ -47,9 +47,9 @@ use Rattle.emp_meaning.proofs.Move.{block_fits, range_count}
 use Rattle.emp_meaning.proofs.MoveGame.{each_player}
 use Rattle.emp_meaning.proofs.PriceLists.{all_here, equations_below, EachListed, constraints_listed}
 use Rattle.emp_meaning.proofs.Prices.{dual_left}
-use Rattle.emp_meaning.proofs.TieLists.{map_source}
+use Rattle.emp_meaning.proofs.TieLists.{map_source, filter_all}
 use Rattle.emp_meaning.proofs.Owners.{block_fit, player_owners}
-use Rattle.emp_meaning.proofs.FillLists.{not_here, count_none, count_filter, filter_all, all_filter_with, apart_map}
+use Rattle.emp_meaning.proofs.FillLists.{not_here, count_none, count_filter, all_filter_with, apart_map}
 
 -- ---- the rules of ownership
 pub variable_once : (m : Model) (a : Annot) (k : ℕ) (b : Block) (v : ℕ) → IsKept m a → slice_get a.blocks k ≡ Some b → v < length m.variables → variable_times v (block_variables b) < 2
