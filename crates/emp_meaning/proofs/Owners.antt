@@ -1,15 +1,13 @@
--- Which coordinates a player owns, and their ranges.
+-- Which coordinates a player owns.
 use Rattle.std.proofs.Common.{◌≡◌, ◌⊎◌, inl, inr, ℕ, zero, suc, ◌+◌, ◌<◌, ℤ, Bool, true, false, not, nat_eq, List, [], ◌∷◌, All, map, length, Some, arith, refl, sym, ap, subst, ◌∙◌}
 use Rattle.std.specs.Prelude.{slice_get, filter}
 use Rattle.std.specs.List.{list_any}
 use Rattle.std.proofs.lemmas.Bool.{eqb-true, eq-eqb, not-true, not_from_false, or_cases, false≢true, false_from_ne_true}
 use Rattle.std.proofs.lemmas.Option.{slice_get_within, get_or_from_slice_get}
-use Rattle.std.proofs.lemmas.List.{get_or-map}
 use Rattle.std.proofs.lemmas.List.Elements.{All-head, All-tail, All-get_or}
 use Rattle.std.proofs.lemmas.List.Folds.{list_any-append}
 use Rattle.emp_ast.specs.declared.tree.VarId.{VarId}
 use Rattle.emp_ast.specs.declared.tree.EquId.{EquId}
-use Rattle.emp_ast.specs.declared.model.End.TheVariants.{Open}
 use Rattle.emp_ast.specs.declared.model.Model.{Model}
 use Rattle.emp_ast.specs.declared.annot.Block.{Block}
 use Rattle.emp_ast.specs.declared.annot.Block.TheVariants.{Agent, Vi}
@@ -20,7 +18,7 @@ use Rattle.emp_owner.proofs.Lists.{any_map}
 use Rattle.emp_game.specs.Game.{Player, Ranges, range_at, names}
 use Rattle.emp_game.specs.Game as TheGame
 use Rattle.emp_split.specs.Games.{Game}
-use Rattle.emp_problem.specs.Left.{left, place, range_of}
+use Rattle.emp_problem.specs.Left.{left, place}
 use Rattle.emp_problem.specs.GameOf.{IsPlayerOf, ArePlayersOf, IsGameOf}
 use Rattle.emp_problem.specs.Class.{VariablesFit, BlockFits, IsClassFile}
 use Rattle.emp_meaning.specs.Ties.{left_at, Places, Owners}
@@ -148,6 +146,3 @@ module _ (n : ℤ) (m : Model) (a : Annot) (class : IsClassFile m a) (k : ℕ) (
 
 pub owners : (n : ℤ) (m : Model) (a : Annot) (g : Game) → IsClassFile m a → IsGameOf n m a g → (k : ℕ) (pl : Player) → slice_get g.players k ≡ Some pl → Owners m a k pl
 owners n m a g class game k pl at = let p = player_at n m a g game k pl at in player_owners n m a class k p.choosing pl p.at p.player
-
-pub ranges_are : (n : ℤ) (m : Model) (a : Annot) (g : Game) → IsGameOf n m a g → (i : ℕ) → i < length (left m a) → range_at g.ranges i ≡ range_of m (left_at m a i)
-ranges_are n m a g game i l = ap (λ (rs : Ranges). range_at rs i) game.ranges ∙ get_or-map (range_of m) (left m a) i 0 (Open, Open) l

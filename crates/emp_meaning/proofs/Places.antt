@@ -127,7 +127,7 @@ agent_at a j w h = go (slice_get a.blocks j) refl h
 pub block_objective_at : (m : Model) (a : Annot) (j v : ℕ) → is_defined_of m a (block j) v ≡ true → AgentAt a j v
 block_objective_at m a j v h = let o = defined_objective m a (block j) v h in subst (AgentAt a j) o.same (agent_at a j o.goal o.is)
 
-goal_named : (m : Model) (a : Annot) (v : ℕ) → is_defined_of m a leader v ≡ true → is_goal m v ≡ true
+pub goal_named : (m : Model) (a : Annot) (v : ℕ) → is_defined_of m a leader v ≡ true → is_goal m v ≡ true
 goal_named m a v h = go m.goal refl
   where
     o : Objective m a leader v
@@ -170,7 +170,7 @@ party_defines m a (block k) v is h = or_left (some_block_defines m a v (length a
 kept_use : (m : Model) (a : Annot) → IsKept m a → (v : ℕ) → v < length m.variables → implicit_use m a v ≡ false
 kept_use m a h v l = h.0.1 v l
 
-namings_short : (m : Model) (a : Annot) → IsKept m a → (v : ℕ) → v < length m.variables → leader_namings m a v + own_namings a v < 2
+pub namings_short : (m : Model) (a : Annot) → IsKept m a → (v : ℕ) → v < length m.variables → leader_namings m a v + own_namings a v < 2
 namings_short m a h v l =
     let twice : owned_twice m a v ≡ false = h.0.0.0.0.0.0.0.0.0.1 v l in
     let three = leader_namings m a v + own_namings a v + dual_namings a v in
@@ -180,7 +180,7 @@ namings_short m a h v l =
     omega arith
 
 -- an agent's objective is in no implicit pair
-objective_not_implicit : (m : Model) (a : Annot) → IsKept m a → (v j : ℕ) → v < length m.variables → AgentAt a j v → is_implicit a v ≡ false
+pub objective_not_implicit : (m : Model) (a : Annot) → IsKept m a → (v j : ℕ) → v < length m.variables → AgentAt a j v → is_implicit a v ≡ false
 objective_not_implicit m a h v j l at = go (is_implicit a v) refl
   where
     role : has_role a v ≡ true
@@ -196,14 +196,14 @@ objective_not_implicit m a h v j l at = go (is_implicit a v) refl
     go true e = absurd (false≢true (sym (kept_use m a h v l) ∙ (ap (λ b. b && uses v) e ∙ used)))
     go false e = e
 
-own_counted : (a : Annot) (v : ℕ) → some_block_owns a v ≡ true → 1 ≤ own_namings a v
+pub own_counted : (a : Annot) (v : ℕ) → some_block_owns a v ≡ true → 1 ≤ own_namings a v
 own_counted a v h = go (is_implicit a v) refl
   where
     go : (b : Bool) → is_implicit a v ≡ b → 1 ≤ own_namings a v
     go true e = subst (λ n. 1 ≤ n) (sym (ap (λ (b : Bool). cond b (cond (some_block_owns a v) 1 0) (owners_of a v)) e ∙ ap (λ (b : Bool). cond b 1 0) h)) (omega arith)
     go false e = subst (λ n. 1 ≤ n) (sym (ap (λ (b : Bool). cond b (cond (some_block_owns a v) 1 0) (owners_of a v)) e)) (count_any (λ b. names_variable (block_variables b) v) a.blocks h)
 
-goal_counted : (m : Model) (a : Annot) (v : ℕ) → a.bilevel ≡ true → is_goal m v || names_variable a.leader v ≡ true → 1 ≤ leader_namings m a v
+pub goal_counted : (m : Model) (a : Annot) (v : ℕ) → a.bilevel ≡ true → is_goal m v || names_variable a.leader v ≡ true → 1 ≤ leader_namings m a v
 goal_counted m a v bilevel h = subst (λ n. 1 ≤ n) (sym (ap (λ (b : Bool). cond b (cond (is_goal m v) (max 1 (variable_times v a.leader)) (variable_times v a.leader)) 0) bilevel)) (go (is_goal m v) refl)
   where
     above : (n : ℕ) → 1 ≤ max 1 n

@@ -92,7 +92,7 @@ form_times (a ∷ ks) (c ∷ cs) (x ∷ xs) ys b k l h =
     ∙ (ap₂ (λ y z. x *ℤ y +ℤ z) (h 0 (omega arith)) (form_times ks cs xs ys b k (omega arith) (λ i s. h (suc i) (omega arith)))
     ∙ by_ring (k ∷ x ∷ dot c ys ∷ Steps.form cs xs ys ∷ []) (var 1 ⊗ (var 0 ⊗ var 2) ⊕ var 0 ⊗ var 3) (var 0 ⊗ (var 1 ⊗ var 2 ⊕ var 3)) refl)
 
-row_of_map : (h : ℕ → List ℤ) (vs : List ℕ) (i : ℕ) → i < length vs → row_of (map h vs) i ≡ h (slice_index_or vs i 0)
+pub row_of_map : (h : ℕ → List ℤ) (vs : List ℕ) (i : ℕ) → i < length vs → row_of (map h vs) i ≡ h (slice_index_or vs i 0)
 row_of_map h [] i l = absurd (omega arith)
 row_of_map h (v ∷ vs) zero l = refl
 row_of_map h (v ∷ vs) (suc i) l = row_of_map h vs i (omega arith)

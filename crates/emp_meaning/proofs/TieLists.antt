@@ -15,10 +15,10 @@ same_truth false true f g = g refl
 same_truth false false f g = refl
 
 -- ---- counts
-abbrev one_if : Bool → ℕ
+abbrev pub one_if : Bool → ℕ
 one_if b = cond b 1 0
 
-count_cons : {X : Type 0} (p : X → Bool) (x : X) (xs : List X) → count_by p (x ∷ xs) ≡ one_if (p x) + count_by p xs
+pub count_cons : {X : Type 0} (p : X → Bool) (x : X) (xs : List X) → count_by p (x ∷ xs) ≡ one_if (p x) + count_by p xs
 count_cons p x xs = sum_by-cons (λ y. one_if (p y)) x xs
 
 pub any_at : {X : Type 0} (p : X → Bool) (xs : List X) (i : ℕ) (x : X) → slice_get xs i ≡ Some x → p x ≡ true → list_any p xs ≡ true
@@ -157,3 +157,7 @@ filter_has {X} p (y ∷ ys) (suc k) x at h = go (p y) (filter_has p ys k x at h)
     go : (b : Bool) → Index (filter p ys) x → Index (cond b (y ∷ filter p ys) (filter p ys)) x
     go true r = record { index = suc r.index; at = r.at }
     go false r = r
+
+pub filter_all : {X : Type 0} (test : X → Bool) → ((x : X) → test x ≡ true) → (xs : List X) → filter test xs ≡ xs
+filter_all test h [] = refl
+filter_all test h (x ∷ xs) = ap (λ b. cond b (x ∷ filter test xs) (filter test xs)) (h x) ∙ ap (λ ys. x ∷ ys) (filter_all test h xs)
