@@ -15,7 +15,7 @@ use Rattle.emp_ast.specs.declared.annot.Annot.{Annot}
 use Rattle.emp_ast.specs.Parties.{block, names_variable, block_variables, block_owns, owns, is_defined_of, is_defined}
 use Rattle.emp_ast.specs.Convex.{counted_by}
 use Rattle.emp_owner.proofs.Lists.{any_map}
-use Rattle.emp_game.specs.Game.{Player, Ranges, range_at, names}
+use Rattle.emp_game.specs.Game.{Player, names}
 use Rattle.emp_game.specs.Game as TheGame
 use Rattle.emp_problem.specs.Left.{left, place}
 use Rattle.emp_problem.specs.GameOf.{IsPlayerOf}
