@@ -39,7 +39,8 @@ use Rattle.emp_problem.specs.GameOf.{IsPurposeOf}
 use Rattle.emp_meaning.specs.Laws.{left_nums}
 use Rattle.emp_meaning.specs.Ties.{left_at, signed_ratio, Deviates, Deviations}
 use Rattle.emp_meaning.proofs.MovePoints.{HasCoordinates, with_coordinates}
-use Rattle.emp_meaning.proofs.Move.{IsTied, block_fits, scaled_same, left_count, left_cell, left_past, placed_cell, range_count, range_is, defines_own, defined_among, defined_unbound}
+use Rattle.emp_meaning.proofs.Move.{IsTied, block_fits, scaled_same, left_count, left_cell, left_past, placed_cell, range_count, range_is, defines_own, defined_unbound}
+use Rattle.emp_meaning.proofs.Places.{party_defines}
 
 -- ---- equal fractions in one range
 range_same : (r : End × End) (x y : Ratio) → SameFraction x y → InRange r x → InRange r y
@@ -56,7 +57,7 @@ pub signed_above : (s : Sense) (x : Ratio) → pos 0 <ℤ x.bottom → pos 0 <�
 signed_above Min x h = h
 signed_above Max x h = h
 
-signed_turned : (s : Sense) (x y : Ratio) → SameRatio x (signed_ratio s y) → SameRatio (signed_ratio s x) y
+pub signed_turned : (s : Sense) (x y : Ratio) → SameRatio x (signed_ratio s y) → SameRatio (signed_ratio s x) y
 signed_turned Min x y h = h
 signed_turned Max x y h = neg_ℤ-*ℤ x.top y.bottom ∙ (ap neg_ℤ h ∙ by_ring (y.top ∷ x.bottom ∷ []) (neg (neg (var 0) ⊗ var 1)) (var 0 ⊗ var 1) refl)
 
@@ -143,7 +144,7 @@ module _ (n : ℤ) (m : Model) (a : Annot) (ranges : Ranges) (k : ℕ) (b : Bloc
       let value = value_squared q e ys in
       let there_value = value_squared q r.den (left_nums m a r) in
       let x = signed_ratio s (coordinate r w.at) in
-      let turned = signed_turned s (coordinate r w.at) (ratio value (n *ℤ (e *ℤ e))) (given w.at fit.0 (defined_among m a w.at k l mine) own) in
+      let turned = signed_turned s (coordinate r w.at) (ratio value (n *ℤ (e *ℤ e))) (given w.at fit.0 (party_defines m a (block k) w.at l mine) own) in
       (tied.values.given (block k) s w.at q r l is of fits).1
       (cross_on x.top x.bottom value (n *ℤ (e *ℤ e)) there_value (n *ℤ (r.den *ℤ r.den)) (mul_pos n (e *ℤ e) tied.positive (mul_pos e e above above)) turned (value_level n q e ys r.den (left_nums m a r) same))
       j c there defined
@@ -204,7 +205,7 @@ module _ (n : ℤ) (m : Model) (a : Annot) (ranges : Ranges) (k : ℕ) (b : Bloc
 
       within : (v : ℕ) (x : Variable) → slice_get m.variables v ≡ Some x → owns m a (block k) v ≡ true → (is_defined m a v ≡ true) ⊎ (is_defined m a v ≡ false) → MeetsBounds r v x
       within v x at own (inl is) =
-          defined_unbound m a k v x (coordinate r v) (tied.places.own (block k) v (slice_get_within a.blocks k b tied.there) (slice_get_within m.variables v x at) own is) at
+          defined_unbound m a (block k) v x (coordinate r v) (tied.places.own (block k) v (slice_get_within a.blocks k b tied.there) (slice_get_within m.variables v x at) own is) at
       within v x at own (inr is) =
           let i = place m a v in
           let l = slice_get_within m.variables v x at in
@@ -217,7 +218,7 @@ module _ (n : ℤ) (m : Model) (a : Annot) (ranges : Ranges) (k : ℕ) (b : Bloc
     where
       within : (v : ℕ) (x : Variable) → slice_get m.variables v ≡ Some x → owns m a (block k) v ≡ true → (is_defined m a v ≡ true) ⊎ (is_defined m a v ≡ false) → MeetsBounds p v x
       within v x at own (inl is) =
-          defined_unbound m a k v x (coordinate p v) (tied.places.own (block k) v (slice_get_within a.blocks k b tied.there) (slice_get_within m.variables v x at) own is) at
+          defined_unbound m a (block k) v x (coordinate p v) (tied.places.own (block k) v (slice_get_within a.blocks k b tied.there) (slice_get_within m.variables v x at) own is) at
       within v x at own (inr is) =
           subst (λ z. InRange (x.low, x.high) (ratio z p.den)) (placed_cell m a p v tied.places (slice_get_within m.variables v x at) is) (in_range p.den (left_nums m a p) v x at own is d.within)
 

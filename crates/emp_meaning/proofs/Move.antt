@@ -1,8 +1,8 @@
 -- What moves between a file and its game: coordinates, defined objectives and ranges.
-use Rattle.std.proofs.Common.{◌≡◌, ◌⊎◌, inl, inr, ℕ, zero, suc, ◌<◌, ◌≤◌, ℤ, pos, ◌*ℤ◌, ◌<ℤ◌, Bool, true, false, not, nat_eq, List, [], ◌∷◌, map, length, Option, Some, None, arith, refl, sym, ap, subst, ◌∙◌}
+use Rattle.std.proofs.Common.{◌≡◌, ◌⊎◌, inl, inr, ℕ, ◌<◌, ◌≤◌, ℤ, pos, ◌*ℤ◌, ◌<ℤ◌, Bool, true, false, not, nat_eq, List, [], ◌∷◌, map, length, Option, Some, None, arith, refl, sym, ap, subst, ◌∙◌}
 use Rattle.std.specs.Prelude.{slice_get, ◌&&◌}
 use Rattle.std.specs.List.{list_any}
-use Rattle.std.proofs.lemmas.Bool.{eq-eqb, eqb-true, and_parts, or_cases, or_left, or_right, false≢true, cases_lt}
+use Rattle.std.proofs.lemmas.Bool.{eq-eqb, eqb-true, and_parts, or_cases, or_left, or_right, false≢true}
 use Rattle.std.proofs.lemmas.List.{get_or-map, get_or_past, length-map}
 use Rattle.std.proofs.lemmas.Option.{slice_get_within, get_or_from_slice_get}
 use Rattle.std.proofs.lemmas.List.Elements.{All-get_or}
@@ -21,7 +21,7 @@ use Rattle.emp_ast.specs.declared.model.Model.{Model}
 use Rattle.emp_ast.specs.declared.annot.Block.{Block}
 use Rattle.emp_ast.specs.declared.annot.Annot.{Annot}
 use Rattle.emp_ast.specs.Meets.{IsAbove, IsBelow}
-use Rattle.emp_ast.specs.Parties.{block, names_equation, equations, objective, is_open, has_no_bound, is_dual, is_implicit_equation, ties, can_define, has_alone, holders, defines_by, defines, is_defined_by, is_defined_of, some_block_defines, is_defined}
+use Rattle.emp_ast.specs.Parties.{Party, block, names_equation, equations, objective, is_open, has_no_bound, is_dual, is_implicit_equation, ties, can_define, has_alone, holders, defines_by, defines, is_defined_by, is_defined_of, is_defined}
 use Rattle.emp_ast.specs.Occurrence.{occurrences}
 use Rattle.emp_game.specs.Game.{Player, Ranges, range_at}
 use Rattle.emp_problem.specs.Left.{left, place, range_of}
@@ -99,17 +99,6 @@ defines_own m a k w e is h =
     let some = named_passes (λ e. defines m a (block k) e) (equations m a (block k)) e named h in
     subst (λ o. is_defined_by m a (block k) w.1 o ≡ true) (sym is) (rw (eq-eqb w.1 w.1 refl) some)
 
-among : (m : Model) (a : Annot) (v k n : ℕ) → k < n → is_defined_of m a (block k) v ≡ true → some_block_defines m a v n ≡ true
-among m a v k zero l h = absurd (omega arith)
-among m a v k (suc n) l h = go (cases_lt k n) (among m a v k n)
-  where
-    go : (k < n) ⊎ (n ≤ k) → (k < n → is_defined_of m a (block k) v ≡ true → some_block_defines m a v n ≡ true) → some_block_defines m a v (suc n) ≡ true
-    go (inl l2) rest = or_right (is_defined_of m a (block n) v) (some_block_defines m a v n) (rest l2 h)
-    go (inr l2) rest = let same : k ≡ n = omega arith in or_left (is_defined_of m a (block n) v) (some_block_defines m a v n) (subst (λ j. is_defined_of m a (block j) v ≡ true) same h)
-
-pub defined_among : (m : Model) (a : Annot) (v k : ℕ) → k < length a.blocks → is_defined_of m a (block k) v ≡ true → is_defined m a v ≡ true
-defined_among m a v k l h = or_left (some_block_defines m a v (length a.blocks)) _ (among m a v k (length a.blocks) l h)
-
 open_above : (end : End) (y : Ratio) → is_open end ≡ true → IsAbove y end
 open_above Open y h = tt
 open_above (At f) y h = absurd (false≢true h)
@@ -119,15 +108,15 @@ open_below Open y h = tt
 open_below (At f) y h = absurd (false≢true h)
 
 -- a defined objective has no bound
-pub defined_unbound : (m : Model) (a : Annot) (k v : ℕ) (x : Variable) (y : Ratio) → is_defined_of m a (block k) v ≡ true → slice_get m.variables v ≡ Some x → IsAbove y x.low × IsBelow y x.high
-defined_unbound m a k v x y h at = go (objective m a (block k)) refl h
+pub defined_unbound : (m : Model) (a : Annot) (k : Party) (v : ℕ) (x : Variable) (y : Ratio) → is_defined_of m a k v ≡ true → slice_get m.variables v ≡ Some x → IsAbove y x.low × IsBelow y x.high
+defined_unbound m a k v x y h at = go (objective m a k) refl h
   where
-    go : (o : Option (Sense × ℕ)) → objective m a (block k) ≡ o → is_defined_by m a (block k) v o ≡ true → IsAbove y x.low × IsBelow y x.high
+    go : (o : Option (Sense × ℕ)) → objective m a k ≡ o → is_defined_by m a k v o ≡ true → IsAbove y x.low × IsBelow y x.high
     go (Some w) is h =
-        let parts = and_parts (nat_eq w.1 v) (list_any (λ e. defines m a (block k) e.at) (equations m a (block k))) h in
-        let some = some_passes (λ e. defines m a (block k) e) (equations m a (block k)) parts.1 in
-        let by : (can_define m a some.0 w.1 && has_alone m a (block k) some.0) ≡ true = subst (λ o. defines_by m a (block k) some.0 o ≡ true) is some.1 in
-        let can = (and_parts (can_define m a some.0 w.1) (has_alone m a (block k) some.0) by).0 in
+        let parts = and_parts (nat_eq w.1 v) (list_any (λ e. defines m a k e.at) (equations m a k)) h in
+        let some = some_passes (λ e. defines m a k e) (equations m a k) parts.1 in
+        let by : (can_define m a some.0 w.1 && has_alone m a k some.0) ≡ true = subst (λ o. defines_by m a k some.0 o ≡ true) is some.1 in
+        let can = (and_parts (can_define m a some.0 w.1) (has_alone m a k some.0) by).0 in
         let free = has_no_bound (slice_get m.variables w.1) in
         let b1 = free && not (is_dual a w.1) in
         let b2 = nat_eq (occurrences w.1 m.equations) 1 in

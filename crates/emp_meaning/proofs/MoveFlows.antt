@@ -1,6 +1,6 @@
 -- The flow of a variational inequality at a point of the file is the dot product of the game's flow row.
-use Rattle.std.proofs.Common.{◌≡◌, ◌⊎◌, inl, inr, ℕ, ◌<◌, ℤ, pos, ◌+ℤ◌, ◌*ℤ◌, ◌<ℤ◌, Bool, true, false, not, nat_eq, List, [], ◌∷◌, ◌++◌, All, map, length, get_or, Some, None, arith, refl, sym, ap, ap₂, subst, ◌∙◌}
-use Rattle.std.specs.Prelude.{slice_get, filter, option_map}
+use Rattle.std.proofs.Common.{◌≡◌, ◌⊎◌, inl, inr, ℕ, ◌<◌, ℤ, pos, ◌+ℤ◌, ◌*ℤ◌, ◌<ℤ◌, true, false, not, nat_eq, List, [], ◌∷◌, ◌++◌, All, map, length, get_or, Some, None, arith, refl, sym, ap, ap₂, subst, ◌∙◌}
+use Rattle.std.specs.Prelude.{slice_get, option_map}
 use Rattle.std.specs.List.{list_any}
 use Rattle.std.proofs.lemmas.Int.{ints}
 use Rattle.std.proofs.lemmas.Bool.{eq-eqb, or_right, false≢true, cases_Bool}
@@ -38,8 +38,9 @@ use Rattle.emp_problem.specs.Left.{left, place, equation_form, block_flow}
 use Rattle.emp_problem.specs.GameOf.{IsRowOf, AreFlowsOf}
 use Rattle.emp_problem.specs.Class.{some_block_constrains, is_function, is_affine}
 use Rattle.emp_meaning.specs.Laws.{left_nums}
+use Rattle.emp_meaning.proofs.TieLists.{filter_all}
 use Rattle.emp_meaning.proofs.Move.{IsTied, block_fits}
-use Rattle.emp_meaning.proofs.MoveRules.{there_is}
+use Rattle.emp_meaning.proofs.PriceLists.{there_is}
 
 -- the flow has a value, which is top over bottom
 pub record FlowIs (m : Model) (p : Point) (weight : ℕ → Ratio) (pairs : List (EquId × VarId)) (top bottom : ℤ) : Type 0 where
@@ -74,13 +75,9 @@ map_map : {X Y Z : Type 0} (f : Y → Z) (g : X → Y) (xs : List X) → map f (
 map_map f g [] = refl
 map_map f g (x ∷ xs) = ap (λ ys. f (g x) ∷ ys) (map_map f g xs)
 
-filter_all : {X : Type 0} (test : X → Bool) (xs : List X) → ((x : X) → test x ≡ true) → filter test xs ≡ xs
-filter_all test [] h = refl
-filter_all test (x ∷ xs) h = rw (h x) (ap (λ ys. x ∷ ys) (filter_all test xs h))
-
 -- ---- one block
 module _ (n : ℤ) (m : Model) (a : Annot) (ranges : Ranges) (k : ℕ) (b : Block) (pl : Player) (tied : IsTied n m a ranges k b pl) where
-  -- weights that are the numbers ws over `bottom` at the variables that are left
+  -- weights that are the numbers ws over b at the variables that are left
   abbrev pub Weighs : (ℕ → Ratio) → List ℤ → ℤ → Type 0
   Weighs weight ws bottom = (v : ℕ) → v < length m.variables → is_defined m a v ≡ false → SameFraction (weight v) (ratio (cell ws (place m a v)) bottom)
 
@@ -143,7 +140,7 @@ module _ (n : ℤ) (m : Model) (a : Annot) (ranges : Ranges) (k : ℕ) (b : Bloc
   own_places : (zeros : List VarId) (pairs : List (EquId × VarId)) (equs : List EquId) → slice_get a.blocks k ≡ Some (Vi zeros pairs equs) → map (λ v. place m a v.at) (counted m a k) ≡ map (λ z. place m a z.at) zeros ++ map (λ q. place m a q.1.at) pairs
   own_places zeros pairs equs at =
       ap (λ o. map (λ v. place m a v.at) (counted_by m a k o)) at
-      ∙ (ap (map (λ v. place m a v.at)) (filter_all (λ v. not (is_defined_of m a (block k) v.at)) (zeros ++ map (λ q. q.1) pairs) (λ v. ap not (no_objective zeros pairs equs v.at at)))
+      ∙ (ap (map (λ v. place m a v.at)) (filter_all (λ v. not (is_defined_of m a (block k) v.at)) (λ v. ap not (no_objective zeros pairs equs v.at at)) (zeros ++ map (λ q. q.1) pairs))
       ∙ (map-append (λ v. place m a v.at) zeros (map (λ q. q.1) pairs) ∙ ap (λ ys. map (λ z. place m a z.at) zeros ++ ys) (map_map (λ v. place m a v.at) (λ q. q.1) pairs)))
 
   pub pairs_fit : (zeros : List VarId) (pairs : List (EquId × VarId)) (equs : List EquId) → slice_get a.blocks k ≡ Some (Vi zeros pairs equs) → All (PairFits m a) pairs

@@ -18,7 +18,7 @@ use Rattle.emp_problem.specs.Class.{IsClassFile}
 use Rattle.emp_meaning.specs.Laws.{left_nums}
 use Rattle.emp_meaning.specs.Ties.{Places, Owners, Values}
 use Rattle.emp_meaning.proofs.Move.{IsTied}
-use Rattle.emp_meaning.proofs.MoveRules.{there_is}
+use Rattle.emp_meaning.proofs.PriceLists.{there_is}
 use Rattle.emp_meaning.proofs.Solved.{solved_down, solved_up}
 
 -- ---- players and blocks

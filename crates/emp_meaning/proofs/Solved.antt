@@ -117,7 +117,7 @@ module _ (n : ℤ) (m : Model) (a : Annot) (ranges : Ranges) (k : ℕ) (b : Bloc
   ties = deviations n m a ranges k b pl tied
 
   pub rival_down : (p r : Point) → Fits m p → IsRival m a (block k) p r → Play.IsRival ranges pl p.den (left_nums m a p) r.den (left_nums m a r)
-  rival_down p r fits h = record { deviation = ties.down p r fits h.deviation; obeys = obeys_down n m a ranges k b pl tied r h.deviation.fits h.constraints }
+  rival_down p r fits h = record { deviation = ties.down p r fits h.deviation; obeys = obeys_down n m a (block k) (slice_get_within a.blocks k b tied.there) tied.class tied.values pl.rules tied.player.rules r h.deviation.fits h.constraints }
 
   pub rival_up : (p : Point) (e : ℤ) (ys : List ℤ) → Fits m p → pos 0 <ℤ e → Play.IsRival ranges pl p.den (left_nums m a p) e ys → Rivals m a k p e ys
   rival_up p e ys fits above h =
@@ -127,7 +127,7 @@ module _ (n : ℤ) (m : Model) (a : Annot) (ranges : Ranges) (k : ℕ) (b : Bloc
         point = d.point;
         rival = record {
           deviation = d.deviation;
-          constraints = obeys_up n m a ranges k b pl tied d.point d.deviation.fits (subst (λ z. Obeys pl.rules z (left_nums m a d.point)) (sym d.den) (subst (λ zs. Obeys pl.rules (d.times *ℤ e) zs) (sym d.nums) obeys));
+          constraints = obeys_up n m a (block k) (slice_get_within a.blocks k b tied.there) tied.class tied.values pl.rules tied.player.rules d.point d.deviation.fits (subst (λ z. Obeys pl.rules z (left_nums m a d.point)) (sym d.den) (subst (λ zs. Obeys pl.rules (d.times *ℤ e) zs) (sym d.nums) obeys));
         };
         times = d.times;
         positive = d.positive;
@@ -136,7 +136,7 @@ module _ (n : ℤ) (m : Model) (a : Annot) (ranges : Ranges) (k : ℕ) (b : Bloc
       }
 
   pub feasible_up : (p : Point) → Fits m p → EachDefinition m a (block k) (λ e q. MeetsEquation p q) → Play.IsRival ranges pl p.den (left_nums m a p) p.den (left_nums m a p) → IsFeasible m a (block k) p
-  feasible_up p fits meets h = record { deviation = itself_up n m a ranges k b pl tied p fits meets h.deviation; constraints = obeys_up n m a ranges k b pl tied p fits h.obeys }
+  feasible_up p fits meets h = record { deviation = itself_up n m a ranges k b pl tied p fits meets h.deviation; constraints = obeys_up n m a (block k) (slice_get_within a.blocks k b tied.there) tied.class tied.values pl.rules tied.player.rules p fits h.obeys }
 
   -- ---- agents
   abbrev value_over : Quadratic → ℤ → List ℤ → Ratio
@@ -210,7 +210,7 @@ module _ (n : ℤ) (m : Model) (a : Annot) (ranges : Ranges) (k : ℕ) (b : Bloc
         same = ap (λ z. z *ℤ (r.den *ℤ p.den)) (by_ring (y ∷ p.den ∷ x ∷ r.den ∷ []) (var 0 ⊗ var 1 ⊕ neg (var 2) ⊗ var 3) (var 1 ⊗ var 0 ⊕ neg (var 3) ⊗ var 2) refl ∙ sym there);
       }
 
-  -- the sum of the flow along the way to r is the flow row's product with that way
+  -- the sum of a flow is at least 0 along the way to r exactly where the flow row's product is not smaller at r
   flow_step : (p r : Point) (zeros : List VarId) (pairs : List (EquId × VarId)) (equs : List EquId) (fs : List Row) → slice_get a.blocks k ≡ Some (Vi zeros pairs equs) → AreFlowsOf n m (left m a) (block_flow (Vi zeros pairs equs)) fs → Fits m p → FlowIs m p (step_to p r) pairs (dot (flow_row pl.own fs p.den (left_nums m a p)) (steps p r)) (n *ℤ p.den *ℤ (r.den *ℤ p.den))
   flow_step p r zeros pairs equs fs at of fits =
       flow_is n m a ranges k b pl tied p (step_to p r) (steps p r) (r.den *ℤ p.den) zeros pairs equs fs at of fits (mul_pos r.den p.den r.positive p.positive) (step_weighs p r)

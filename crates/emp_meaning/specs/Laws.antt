@@ -1,5 +1,5 @@
 -- The laws of a file and its game, as statements. The game's point is that of the variables that are left.
-use Rattle.std.specs.Prelude.{◌≡◌, ◌↔◌, ℕ, ℤ, pos, ◌*ℤ◌, ◌<ℤ◌, true, List, length}
+use Rattle.std.specs.Prelude.{◌≡◌, ◌↔◌, ℤ, pos, ◌*ℤ◌, ◌<ℤ◌, true, List, length}
 use Rattle.emp_algebra.specs.Vector.{scale}
 use Rattle.emp_num.specs.Point.{Point}
 use Rattle.emp_ast.specs.declared.model.Model.{Model}

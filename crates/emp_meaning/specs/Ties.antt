@@ -1,5 +1,5 @@
 -- How a file and its game are tied, fact by fact. This serves proofs; no meaning cites it.
-use Rattle.std.specs.Prelude.{◌≡◌, ◌↔◌, ℕ, ◌<◌, ℤ, pos, ◌*ℤ◌, ◌<ℤ◌, Bool, true, false, List, length, slice_get, slice_index_or, Option, Some, None}
+use Rattle.std.specs.Prelude.{◌≡◌, ◌↔◌, ℕ, ◌<◌, ℤ, pos, ◌*ℤ◌, ◌<ℤ◌, true, false, List, length, slice_get, slice_index_or, Some}
 use Rattle.emp_algebra.specs.Vector.{scale}
 use Rattle.emp_num.specs.Ratio.{Ratio, ratio, negated, SameRatio}
 use Rattle.emp_num.specs.Point.{Point, coordinate}
@@ -10,7 +10,7 @@ use Rattle.emp_ast.specs.declared.model.Sense.TheVariants.{Min, Max}
 use Rattle.emp_ast.specs.declared.model.Model.{Model}
 use Rattle.emp_ast.specs.declared.annot.Annot.{Annot}
 use Rattle.emp_ast.specs.Meets.{MeetsEquation}
-use Rattle.emp_ast.specs.Parties.{Party, leader, block, objective, owns, is_defined, is_defined_of, is_constraint, EachDefinition}
+use Rattle.emp_ast.specs.Parties.{Party, leader, block, objective, owns, is_defined, is_defined_of, EachDefinition}
 use Rattle.emp_ast.specs.Rivals.{Fits, IsDeviation}
 use Rattle.emp_ast.specs.Solved.{sides_gap}
 use Rattle.emp_form.specs.Expansion.{form}
@@ -18,10 +18,9 @@ use Rattle.emp_game.specs.Game.{Row, Player, Ranges, range_at}
 use Rattle.emp_game.specs.Game as TheGame
 use Rattle.emp_game.specs.Solved.{value_at, IsObeyed}
 use Rattle.emp_game.specs.Solved as Play
-use Rattle.emp_split.specs.Games.{Game}
 use Rattle.emp_agents.specs.Given.{difference}
-use Rattle.emp_problem.specs.Left.{left, place, range_of, goal_form}
-use Rattle.emp_problem.specs.GameOf.{IsRowOf, IsQuadraticOf, IsGameOf}
+use Rattle.emp_problem.specs.Left.{left, place, goal_form}
+use Rattle.emp_problem.specs.GameOf.{IsRowOf, IsQuadraticOf}
 use Rattle.emp_problem.specs.Class.{is_affine}
 use Rattle.emp_meaning.specs.Laws.{left_nums}
 
