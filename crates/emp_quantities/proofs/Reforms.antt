@@ -1,6 +1,8 @@
 -- The row system in the place of a game with numbers, as the laws of a rewriting ask it.
-use Rattle.std.proofs.Common.{◌≡◌, ◌↔◌, ℕ, zero, suc, ◌+◌, ℤ, ◌*ℤ◌, List, [], ◌∷◌, ◌++◌, map, take, length, arith, refl, sym, ap, ap₂, subst, ◌∙◌, length-append}
-use Rattle.emp_algebra.specs.Vector.{cell}
+use Rattle.std.proofs.Common.{◌≡◌, ◌↔◌, ℕ, zero, suc, ◌+◌, ℤ, pos, ◌*ℤ◌, ◌<ℤ◌, List, [], ◌∷◌, ◌++◌, map, take, length, arith, refl, sym, ap, ap₂, subst, ◌∙◌, length-append}
+use Rattle.emp_algebra.specs.Vector.{cell, scale}
+use Rattle.emp_algebra.proofs.Ring.{var, ◌⊗◌, by_ring}
+use Rattle.emp_algebra.proofs.Vectors.{cell-scale, length-scale}
 use Rattle.emp_num.specs.Point.{Point}
 use Rattle.emp_num.specs.SamePoint.{SamePoint}
 use Rattle.emp_rows.specs.declared.system.RowSystem.{RowSystem}
@@ -12,9 +14,10 @@ use Rattle.emp_split.proofs.Reforms.{front_length, take_lengths, take_cells}
 use Rattle.emp_conditions.specs.Base.{base_slots, index_base, multiplier, split_of}
 use Rattle.emp_conditions.specs.Laws.{IsLeader}
 use Rattle.emp_conditions.proofs.Sound.{split_front}
-use Rattle.emp_quantities.specs.System.{IsSystemOf, IsBelowBy}
+use Rattle.emp_quantities.specs.System.{IsBelowBy}
+use Rattle.emp_quantities.specs.Over.{IsSystemOver}
 use Rattle.emp_quantities.specs.Laws.{GoalIsShort}
-use Rattle.emp_quantities.proofs.Numbering.{system_orders, system_lifts}
+use Rattle.emp_quantities.proofs.Numbering.{over_orders, over_lifts}
 
 -- the coordinates and the multipliers of a row point
 abbrev pub split_point : Game → Point → Point
@@ -27,8 +30,8 @@ map_length : (f : Slot → ℤ) (ss : List Slot) → length (map f ss) ≡ lengt
 map_length f [] = refl
 map_length f (s ∷ ss) = ap suc (map_length f ss)
 
-pub split_fits : (g : Game) (s : RowSystem) (p : Point) → IsSystemOf g s → length p.nums ≡ s.base → length (split_point g p).nums ≡ coordinates g + length (slots g)
-split_fits g s p m h =
+pub split_fits : (n : ℤ) (g : Game) (s : RowSystem) (p : Point) → IsSystemOver n g s → length p.nums ≡ s.base → length (split_point g p).nums ≡ coordinates g + length (slots g)
+split_fits n g s p m h =
     length-append (take (coordinates g) p.nums) (map (number_of g p.nums) (slots g)) ∙ ap₂ (λ i j. i + j) (front_length (coordinates g) p.nums (length (base_slots g)) (h ∙ m.base)) (map_length (number_of g p.nums) (slots g))
 
 -- ---- the same point
@@ -54,13 +57,20 @@ split_same g p q h = record {
 
 -- ---- order and lifts
 -- of row points that fit, one is better exactly where the coordinates of its split point are
-pub split_orders : (g : Game) (s : RowSystem) (p q : Point) → GoalIsShort (coordinates g) g.leader → IsSystemOf g s → length p.nums ≡ s.base → length q.nums ≡ s.base → IsBelowBy s.objective p q ↔ IsBetter g.leader p.den (take (coordinates g) (split_point g p).nums) q.den (take (coordinates g) (split_point g q).nums)
-split_orders g s p q short m h k =
+pub split_orders : (n : ℤ) (g : Game) (s : RowSystem) (p q : Point) → GoalIsShort (coordinates g) g.leader → IsSystemOver n g s → length p.nums ≡ s.base → length q.nums ≡ s.base → IsBelowBy s.objective p q ↔ IsBetter g.leader p.den (take (coordinates g) (split_point g p).nums) q.den (take (coordinates g) (split_point g q).nums)
+split_orders n g s p q short m h k =
     subst (λ ys. IsBelowBy s.objective p q ↔ IsBetter g.leader p.den ys q.den (take (coordinates g) (split_of g q.nums))) (sym (split_front g p.nums (length (base_slots g)) (h ∙ m.base)))
-    (subst (λ ys. IsBelowBy s.objective p q ↔ IsBetter g.leader p.den (take (coordinates g) p.nums) q.den ys) (sym (split_front g q.nums (length (base_slots g)) (k ∙ m.base))) (system_orders g s p q short m))
+    (subst (λ ys. IsBelowBy s.objective p q ↔ IsBetter g.leader p.den (take (coordinates g) p.nums) q.den ys) (sym (split_front g q.nums (length (base_slots g)) (k ∙ m.base))) (over_orders n g s p q short m h k))
 
-pub split_lifts : (g : Game) (s : RowSystem) (q : Point) → IsGame g → IsLeader (coordinates g) g.leader → IsSystemOf g s → IsSplit g q.den q.nums → (p : Point) × Solves s p × SamePoint (split_point g p) q
-split_lifts g s q kept lead m h = go (system_lifts g s q kept lead m h)
+pub split_lifts : (n : ℤ) (g : Game) (s : RowSystem) (q : Point) → pos 0 <ℤ n → IsGame g → IsLeader (coordinates g) g.leader → IsSystemOver n g s → IsSplit g q.den q.nums → (p : Point) × Solves s p × SamePoint (split_point g p) q
+split_lifts n g s q above kept lead m h = go (over_lifts n g s q above kept lead m h)
   where
-    go : (p : Point) × Solves s p × (p.den ≡ q.den) × (split_of g p.nums ≡ q.nums) → (p : Point) × Solves s p × SamePoint (split_point g p) q
-    go t = (t.0, t.1, record { count = ap length t.3; same = λ k. ap₂ (λ (ys : List ℤ) (z : ℤ). cell ys k *ℤ z) t.3 (sym t.2) })
+    go : (p : Point) × Solves s p × (p.den ≡ n *ℤ q.den) × (split_of g p.nums ≡ scale n q.nums) → (p : Point) × Solves s p × SamePoint (split_point g p) q
+    go t = (
+      t.0,
+      t.1,
+      record {
+        count = ap length t.3 ∙ length-scale n q.nums;
+        same = λ k. ap (λ z. z *ℤ q.den) (ap (λ (ys : List ℤ). cell ys k) t.3 ∙ cell-scale n q.nums k) ∙ (by_ring (n ∷ cell q.nums k ∷ q.den ∷ []) (var 0 ⊗ var 1 ⊗ var 2) (var 1 ⊗ (var 0 ⊗ var 2)) refl ∙ ap (λ z. cell q.nums k *ℤ z) (sym t.2));
+      },
+    )

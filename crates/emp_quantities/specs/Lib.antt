@@ -1,2 +1,3 @@
 pub mod System
+pub mod Over
 pub mod Laws

@@ -20,8 +20,9 @@ use Rattle.emp_cert.specs.Verdicts.{IsRowRay}
 use Rattle.emp_cert.specs.Laws.{along, IsAlong}
 use Rattle.emp_cert.proofs.Rays.{some_along, ray_solves, ray_falls}
 use Rattle.emp_left.specs.Left.{selected}
-use Rattle.emp_split.specs.Games.{Leader}
-use Rattle.emp_quantities.specs.System.{IsObjectiveOf, IsBelowBy}
+use Rattle.emp_split.specs.Games.{Leader, Game}
+use Rattle.emp_quantities.specs.System.{IsBelowBy}
+use Rattle.emp_quantities.specs.Over.{IsObjectiveOver}
 use Rattle.emp_problem.specs.Left.{left}
 use Rattle.emp_problem.specs.GameOf.{LeadsAs}
 use Rattle.emp_meaning.specs.Laws.{Filled}
@@ -91,11 +92,11 @@ some_after laws m a s p v t rows bilevel =
 
 -- ---- the objective falls
 -- a bilevel file's system has an objective
-has_objective : (n : ℤ) (m : Model) (a : Annot) (b : Bool) (l : Option Leader) (o : Option Affine) → b ≡ true → LeadsAs n m a b l → IsObjectiveOf o l → (r : Affine) × (o ≡ Some r)
-has_objective n m a true (Some l) (Some r) e h k = (r, refl)
-has_objective n m a true (Some l) None e h k = absurd k
-has_objective n m a true None o e h k = absurd h
-has_objective n m a false l o e h k = absurd (false≢true e)
+has_objective : (n : ℤ) (m : Model) (a : Annot) (g : Game) (b : Bool) (l : Option Leader) (o : Option Affine) → b ≡ true → LeadsAs n m a b l → IsObjectiveOver n g o l → (r : Affine) × (o ≡ Some r)
+has_objective n m a g true (Some l) (Some r) e h k = (r, refl)
+has_objective n m a g true (Some l) None e h k = absurd k
+has_objective n m a g true None o e h k = absurd h
+has_objective n m a g false l o e h k = absurd (false≢true e)
 
 ray_below : (s : RowSystem) (q d : Point) → IsRowRay s q d → (r : Affine) → s.objective ≡ Some r → (t : ℕ) (w u : Point) → IsAlong q d t w → IsAlong q d (t + 1) u → IsBelowBy s.objective u w
 ray_below s q d ray r o t w u h k = subst (λ (x : Option Affine). IsBelowBy x u w) (sym o) (ray_falls s r q d ray o t (t + 1) w u (omega arith) h k)
@@ -112,6 +113,6 @@ rays_are_rays laws m a s p v q d rows bilevel ray file fits step = record {
     better t r u here later =
         let w = some_along q d t in
         let x = some_along q d (t + 1) in
-        let o = has_objective rows.times m a a.bilevel rows.game.leader s.objective bilevel rows.is.leads rows.system.objective in
+        let o = has_objective rows.times m a rows.game a.bilevel rows.game.leader s.objective bilevel rows.is.leads rows.system.objective in
         (orders_agree laws m a s x.0 w.0 u r rows bilevel (ray_solves s q d ray (t + 1) x.0 x.1) (ray_solves s q d ray t w.0 w.1) (after_file m a p v q d u x.0 (t + 1) file.same step later x.1) (after_file m a p v q d r w.0 t file.same step here w.1)).0
         (ray_below s q d ray o.0 o.1 t w.0 x.0 w.1 x.1)

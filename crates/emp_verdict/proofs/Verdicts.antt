@@ -15,7 +15,7 @@ use Rattle.emp_rows.specs.RowPoints.{Solves, value_at}
 use Rattle.emp_split.specs.Games.{coordinates}
 use Rattle.emp_split.specs.Meaning.{IsAdmissible as IsGameAdmissible, IsBetter}
 use Rattle.emp_quantities.specs.System.{IsBelowBy}
-use Rattle.emp_quantities.proofs.Numbering.{system_orders}
+use Rattle.emp_quantities.proofs.Numbering.{over_orders}
 use Rattle.emp_problem.specs.Class.{SolvesBy, SolvesFile, MeetsDefinitions}
 use Rattle.emp_meaning.specs.Laws.{left_nums, IsWellMade, GameSolvesFile, FileSolvesGame, OrdersAgree, CoordinatesFill, GamesAreWellMade}
 use Rattle.emp_verdict.specs.Laws.{HasRows, IsFileOf, PointsSolve, MissingHaveNone, BestAreBest}
@@ -50,7 +50,7 @@ points_solve laws m a s p q rows solves file =
     let grown = over q p in
     let same = over_same q p in
     let nums = matched rows.times m a rows.game s p q rows.is rows.system solves.count file.same in
-    let row = rows_admissible rows.game s (over p q) (made_by laws m a s rows) rows.convex rows.system (solves_over s p q solves) in
+    let row = rows_admissible rows.times rows.game s (over p q) (made_by laws m a s rows) rows.convex rows.system (solves_over s p q solves) in
     let game : IsGameAdmissible rows.game grown.den (left_nums m a grown) = subst₂ (λ (d : ℤ) (xs : List ℤ). IsGameAdmissible rows.game d xs) (*ℤ_comm p.den q.den) (sym nums) row in
     same_solves a.bilevel m a grown p (same_back p grown same)
     (laws.sound rows.times m a rows.game grown rows.class rows.is (sym same.count ∙ file.fits) (same_definitions m a p grown same file.definitions) game)
@@ -74,7 +74,7 @@ orders_agree laws m a s p q r t rows bilevel h k file other = (λ l. there.0 (tu
     grown = below_over s.objective r t p q
 
     system : IsBelowBy s.objective (over r p) (over t q) ↔ IsBetter rows.game.leader (over r p).den (take (coordinates rows.game) (over r p).nums) (over t q).den (take (coordinates rows.game) (over t q).nums)
-    system = system_orders rows.game s (over r p) (over t q) (made_by laws m a s rows).goal rows.system
+    system = over_orders rows.times rows.game s (over r p) (over t q) (made_by laws m a s rows).goal rows.system (solves_over s r p h).count (solves_over s t q k).count
 
     first : left_nums m a (over p r) ≡ take (coordinates rows.game) (over r p).nums
     first = matched rows.times m a rows.game s r p rows.is rows.system h.count file.same

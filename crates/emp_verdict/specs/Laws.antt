@@ -10,19 +10,19 @@ use Rattle.emp_rows.specs.declared.system.RowSystem.{RowSystem}
 use Rattle.emp_rows.specs.RowPoints.{Solves}
 use Rattle.emp_cert.specs.Verdicts.{NoneBetter, IsRowRay}
 use Rattle.emp_split.specs.Games.{Game, IsConvexGame}
-use Rattle.emp_quantities.specs.System.{IsSystemOf}
+use Rattle.emp_quantities.specs.Over.{IsSystemOver}
 use Rattle.emp_problem.specs.Left.{left}
 use Rattle.emp_problem.specs.GameOf.{IsGameOf}
 use Rattle.emp_problem.specs.Class.{IsClassFile, SolvesFile, MeetsDefinitions}
 
--- the row system of a file of the class whose agents are convex: that of its game
+-- the row system of a file of the class whose agents are convex: that of its game, whose numbers are those of the file times `times`
 pub record HasRows (m : Model) (a : Annot) (s : RowSystem) : Type 0 where
   pub class : IsClassFile m a
   pub times : ℤ
   pub game : Game
   pub is : IsGameOf times m a game
   pub convex : IsConvexGame game
-  pub system : IsSystemOf game s
+  pub system : IsSystemOver times game s
 
 -- the coordinates of the variables that are left are the first ones of the row point
 abbrev pub HasCoordinates : Model → Annot → Point → Point → Type 0
