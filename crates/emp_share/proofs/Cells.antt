@@ -1,6 +1,6 @@
 -- The matrix of the second derivatives of a polynomial, and the answer of its fold.
-use Rattle.std.proofs.Common.{◌≡◌, ◌≢◌, ◌⊎◌, inl, inr, ℕ, zero, suc, ◌+◌, ◌*◌, ◌/◌, ◌%◌, ◌<◌, ◌≤◌, ℤ, pos, ◌*ℤ◌, ◌<ℤ◌, Bool, true, false, cond, nat_eq, nat_lt, List, [], ◌∷◌, ◌++◌, length, get_or, slice_index_or, Result, Ok, Err, MatchResult, arith, refl, sym, ap, ap₂, subst, subst₂, ◌∙◌}
-use Rattle.std.proofs.lemmas.Bool.{eqb-true, lt-ltb, ltb-true, ltb-false, false≢true}
+use Rattle.std.proofs.Common.{◌≡◌, ◌≢◌, ◌⊎◌, inl, inr, ℕ, ◌+◌, ◌*◌, ◌<◌, ◌≤◌, pos, ◌*ℤ◌, Bool, true, false, cond, nat_eq, nat_lt, List, [], ◌∷◌, ◌++◌, length, get_or, slice_index_or, Result, Ok, Err, MatchResult, arith, refl, sym, ap, ap₂, subst, subst₂, ◌∙◌}
+use Rattle.std.proofs.lemmas.Bool.{lt-ltb}
 use Rattle.std.proofs.lemmas.List.{length-append, get_or_append_left, get_or-append-add}
 use Rattle.std.proofs.lemmas.Nat.{div-mul-add, mod-mul-add}
 use Rattle.emp_algebra.proofs.Ring.{var, lit, ◌⊗◌, by_ring}
@@ -9,7 +9,7 @@ use Rattle.emp_num.specs.Whole.{whole}
 use Rattle.emp_num.specs.declared.frac.Frac.{Frac}
 use Rattle.emp_num.specs.declared.exact.Wide.{Wide}
 use Rattle.emp_num.proofs.FracOrder.{one_value}
-use Rattle.emp_ldl.specs.Form.{IsSymmetric, entry, entries}
+use Rattle.emp_ldl.specs.Form.{entry, entries}
 use Rattle.emp_ldl.specs.Convex.{ConvexGives}
 use Rattle.emp_ldl.specs.declared.squares.Squares.{Squares}
 use Rattle.emp_ldl.specs.declared.squares.Curve.{Curve}
@@ -20,7 +20,7 @@ use Rattle.emp_poly.specs.Quads.{square_at}
 use Rattle.emp_poly.specs.Gradient.{DoubleIsWide}
 use Rattle.emp_poly.specs.declared.quad.Quad.{Quad}
 use Rattle.emp_poly.proofs.Deriving.{is_double, double_narrow, double_wide}
-use Rattle.emp_poly.proofs.QuadForms.{same_is, apart, number_cases}
+use Rattle.emp_poly.proofs.QuadForms.{apart, number_cases}
 use Rattle.emp_share.specs.Share.{variable_at, product_at, IsSecondBy, IsSecond, AreSeconds, FoldPasses, DoubleEnds, GoalGives}
 use Rattle.emp_share.specs.Steps.{IsDoubleOf, AreDoubles, AreCells}
 

@@ -49,10 +49,10 @@ cross n f num den over is =
     ∙ (ap (λ z. n *ℤ z) is ∙ by_ring (n ∷ num ∷ f.den ∷ []) (var 0 ⊗ (var 1 ⊗ var 2)) (var 0 ⊗ var 1 ⊗ var 2) refl))))
     f.positive
 
-cross_none : (n den : ℤ) → times_over n (whole 0) *ℤ den ≡ n *ℤ pos 0
+pub cross_none : (n den : ℤ) → times_over n (whole 0) *ℤ den ≡ n *ℤ pos 0
 cross_none n den = cross n (whole 0) (pos 0) den (subst (λ z. IsWholeOver z (whole 0)) (by_ring (n ∷ []) (var 0 ⊗ lit (pos 1)) (var 0) refl) (over_multiple n (whole 0))) (zero-*ℤ den ∙ sym (zero-*ℤ (pos 1)))
 
-cell_map : (g : ℕ → ℤ) (vs : List ℕ) (i : ℕ) → i < length vs → cell (map g vs) i ≡ g (slice_index_or vs i 0)
+pub cell_map : (g : ℕ → ℤ) (vs : List ℕ) (i : ℕ) → i < length vs → cell (map g vs) i ≡ g (slice_index_or vs i 0)
 cell_map g vs i h = get_or-map g vs i 0 (pos 0) h
 
 row_is : (n : ℤ) (vs : List ℕ) (f : Form) (l : Lin) → LinIsOver n l → LinHasForm l f → IsRowOf n vs f (lin_row n vs l)
@@ -71,7 +71,7 @@ upper_cross n f q u v over has = go (nat_lt v u) refl
     go true e = cross_none n f.den
     go false e = cross n (square_at q.square u v) (f.square u v) f.den (over.square u v) (has.square u v (ltb-false v u e))
 
-row_of-map : (g : ℕ → List ℤ) (vs : List ℕ) (i : ℕ) → i < length vs → row_of (map g vs) i ≡ g (slice_index_or vs i 0)
+pub row_of-map : (g : ℕ → List ℤ) (vs : List ℕ) (i : ℕ) → i < length vs → row_of (map g vs) i ≡ g (slice_index_or vs i 0)
 row_of-map g [] i h = absurd (omega (arith, h))
 row_of-map g (v ∷ vs) zero h = refl
 row_of-map g (v ∷ vs) (suc i) h = row_of-map g vs i (omega (arith, h))
