@@ -1,3 +1,3 @@
 pub mod Cells
 pub mod Passing
-pub mod Faults
+pub mod Files

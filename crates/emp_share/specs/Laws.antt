@@ -2,7 +2,7 @@
 use Rattle.std.specs.Prelude.{◌≡◌, ℕ, ◌+◌, ◌<◌, ℤ, length, Ok, Err}
 use Rattle.emp_ast.specs.declared.model.Model.{Model}
 use Rattle.emp_ast.specs.declared.annot.Annot.{Annot}
-use Rattle.emp_ast.specs.Convex.{IsConvexUpTo}
+use Rattle.emp_ast.specs.Convex.{IsConvexUpTo, IsConvex}
 use Rattle.emp_split.specs.Games.{IsGame, IsConvexGame}
 use Rattle.emp_problem.specs.declared.problem.AgentProblem.{AgentProblem}
 use Rattle.emp_problem.specs.Problem.{game, IsOver}
@@ -15,6 +15,10 @@ use Rattle.emp_share.specs.Share.{ShareGives}
 -- where all agents pass, the game of the problem is convex
 abbrev pub PassingIsConvex : Type 0
 PassingIsConvex = (n : ℤ) (pr : AgentProblem) → IsOver n pr → IsGame (game n pr) → ShareGives pr (Ok tt) → IsConvexGame (game n pr)
+
+-- and each agent of the file is convex in all its counted variables
+abbrev pub PassingTells : Type 0
+PassingTells = (m : Model) (a : Annot) (pr : AgentProblem) → IsProblemOf m a pr → IsClassFile m a → ShareGives pr (Ok tt) → (k : ℕ) → k < length a.blocks → IsConvex m a k
 
 -- the agent of the block of this number, counted from 1, is convex in fewer than its first k counted variables
 pub record IsConvexBelow (m : Model) (a : Annot) (number k : ℕ) : Type 0 where

@@ -1,4 +1,4 @@
--- What a fault says of the file.
+-- What the answer says of the file.
 use Rattle.std.proofs.Common.{◌≡◌, ◌≢◌, ◌⊎◌, inl, inr, ℕ, zero, suc, ◌+◌, ◌<◌, ◌≤◌, ℤ, pos, neg_ℤ, ◌*ℤ◌, ◌≤ℤ◌, ◌<ℤ◌, Bool, true, false, ◌||◌, not, cond, nat_eq, nat_lt, List, [], ◌∷◌, All, length, slice_index_or, Option, Some, None, Ok, Err, arith, refl, sym, ap, ap₂, subst, subst₂, ◌∙◌}
 use Rattle.std.specs.Prelude.{slice_get, filter}
 use Rattle.std.proofs.lemmas.Bool.{eqb-true, lt-ltb, false≢true}
@@ -18,7 +18,7 @@ use Rattle.emp_ast.specs.declared.annot.Block.{Block}
 use Rattle.emp_ast.specs.declared.annot.Block.TheVariants.{Agent, Vi}
 use Rattle.emp_ast.specs.declared.annot.Annot.{Annot}
 use Rattle.emp_ast.specs.Parties.{block, objective, block_objective, names_variable, is_defined_of}
-use Rattle.emp_ast.specs.Convex.{counted, counted_by, IsConvexUpTo}
+use Rattle.emp_ast.specs.Convex.{counted, counted_by, IsConvexUpTo, IsConvex}
 use Rattle.emp_form.specs.Form.{Form}
 use Rattle.emp_form.specs.Partial.{second_at}
 use Rattle.emp_poly.specs.Quads.{square_at, HasForm}
@@ -42,8 +42,8 @@ use Rattle.emp_problem.specs.Left.{signed_for, goal_form}
 use Rattle.emp_problem.specs.ProblemOf.{IsBlockFor, IsPurposeFor, AreBlocksFor, IsProblemOf}
 use Rattle.emp_problem.specs.Class.{BlockFits, IsClassFile}
 use Rattle.emp_share.specs.declared.share.ShareFault.TheVariants.{NotConvex, WideCurve, NoMemory}
-use Rattle.emp_share.specs.Share.{variable_at, product_at, IsSecondBy, IsSecond, AreSeconds, FoldEnds, DoubleEnds, GoalGives, PurposeGives, BlockEnds}
-use Rattle.emp_share.specs.Laws.{FaultTells}
+use Rattle.emp_share.specs.Share.{variable_at, product_at, IsSecondBy, IsSecond, AreSeconds, FoldPasses, FoldEnds, DoubleEnds, GoalGives, PurposeGives, BlockPasses, BlockEnds}
+use Rattle.emp_share.specs.Laws.{PassingTells, FaultTells}
 
 -- ---- second derivatives as those of the form
 not_before : (u v : ℕ) → u ≤ v → nat_lt v u ≡ false
@@ -154,6 +154,11 @@ module _ (m : Model) (a : Annot) (k : ℕ) (q : Quad) (agent : IsAgent m a k) (h
       let s = (Says.convex_says d.row f.cells f.seconds.matrix (Ok d.before.squares) f.gives).1.semidefinite in
       convex d.row h f.cells (let e = d.is in omega arith) f.seconds (record { nowhere = λ e xs p b. s.nowhere e xs p (let i = d.is in omega arith); lower = λ e xs p b. s.lower e xs p (let i = d.is in omega arith) })
 
+  passes : FoldPasses q vs (length vs) → IsConvex m a k
+  passes f =
+      let s = (Says.convex_says (length vs) f.gives.cells f.gives.seconds.matrix (Ok f.squares) f.gives.gives).1.semidefinite in
+      (Agents.curvature_is_convex.whole m a k agent).1 ((semidefinite_is_whole (length vs) f.gives.cells (agent_curvature m a k) (given_form m a (block k)).den (length vs) (omega arith) (cells_over (length vs) (length vs) f.gives.cells (omega arith) f.gives.seconds)).0 s)
+
 -- ---- the block of a part
 record PartIs (m : Model) (a : Annot) (k i : ℕ) (bs : List Block) (p : BlockPart) : Type 0 where
   b : Block
@@ -248,3 +253,22 @@ fault_tells m a pr h class (WideCurve b k) x =
     let s = block_says m a pr b (Curved.Wide k) h class x in
     record { at = x.at; is = x.is; below = s.1; fewer = s.0 }
 fault_tells m a pr h class NoMemory x = tt
+
+-- ---- where all pass
+part_there : (m : Model) (a : Annot) (k i : ℕ) (bs : List Block) (ps : List BlockPart) → AreBlocksFor m a k bs ps → i < length bs → (p : BlockPart) × (slice_get ps i ≡ Some p)
+part_there m a k i [] ps h l = absurd (omega (arith, l))
+part_there m a k i (b ∷ bs) [] h l = absurd h
+part_there m a k zero (b ∷ bs) (c ∷ ps) h l = (c, refl)
+part_there m a k (suc i) (b ∷ bs) (c ∷ ps) h l = part_there m a (suc k) i bs ps h.1 (omega (arith, l))
+
+purpose_passes : (m : Model) (a : Annot) (k : ℕ) (b : Block) (own : List VarId) (p : Purpose) → IsClassFile m a → slice_get a.blocks k ≡ Some b → own ≡ counted m a k → IsPurposeFor m a k b p → PurposeGives p own (Ok tt) → IsConvex m a k
+purpose_passes m a k (Agent sense o vars equs) own (Goal q) class there e is g = passes m a k q (agent_is m a k sense o vars equs class there) is (subst (λ us. FoldPasses q us (length us)) e g)
+purpose_passes m a k (Agent sense o vars equs) own (Flow ls) class there e is g = absurd is
+purpose_passes m a k (Vi zeros pairs equs) own p class there e is g = λ s w h. absurd (none-some (s, w) (sym (ap block_objective there) ∙ h))
+
+pub passing_tells : PassingTells
+passing_tells m a pr h class all k l =
+    let c = part_there m a 0 k a.blocks pr.blocks h.blocks l in
+    let r = part_is m a 0 k a.blocks pr.blocks c.0 h.blocks c.1 in
+    let is : IsBlockFor m a k r.b c.0 = subst (λ j. IsBlockFor m a j r.b c.0) (omega arith) r.is in
+    purpose_passes m a k r.b c.0.own c.0.purpose class r.there is.own is.purpose (one_of BlockPasses pr.blocks k c.0 all c.1)
