@@ -20,7 +20,7 @@ use Rattle.emp_poly.specs.Quads.{square_at}
 use Rattle.emp_poly.specs.Gradient.{DoubleIsWide}
 use Rattle.emp_poly.specs.declared.quad.Quad.{Quad}
 use Rattle.emp_poly.proofs.Deriving.{is_double, double_narrow, double_wide}
-use Rattle.emp_poly.proofs.QuadForms.{apart, number_cases}
+use Rattle.emp_poly.proofs.QuadForms.{same_is, apart, number_cases}
 use Rattle.emp_share.specs.Share.{variable_at, product_at, IsSecondBy, IsSecond, AreSeconds, FoldPasses, DoubleEnds, GoalGives}
 use Rattle.emp_share.specs.Steps.{IsDoubleOf, AreDoubles, AreCells}
 
@@ -60,22 +60,42 @@ eq_swap u v = go (number_cases u v)
     go (inl e) = ap₂ nat_eq e (sym e)
     go (inr n) = apart u v n ∙ sym (apart v u (λ e. n (sym e)))
 
-pub product_swap : (q : Quad) (u v : ℕ) → product_at q u v ≡ product_at q v u
-product_swap q u v = go (cases u v)
+order : (u v : ℕ) → (u < v) ⊎ ((v < u) ⊎ (u ≡ v))
+order u v = grind arith
+
+pub not_before : (u v : ℕ) → u ≤ v → nat_lt v u ≡ false
+not_before u v h = grind arith
+
+product_there : (q : Quad) (u v : ℕ) → u ≤ v → product_at q u v ≡ square_at q.square u v
+product_there q u v h = ap (λ b. cond b (square_at q.square v u) (square_at q.square u v)) (not_before u v h)
+
+product_back : (q : Quad) (u v : ℕ) → v < u → product_at q u v ≡ square_at q.square v u
+product_back q u v h = ap (λ b. cond b (square_at q.square v u) (square_at q.square u v)) (lt-ltb v u h)
+
+product_swap : (q : Quad) (u v : ℕ) → product_at q u v ≡ product_at q v u
+product_swap q u v = go (order u v)
   where
-    cases : (u v : ℕ) → (u < v) ⊎ ((v < u) ⊎ (u ≡ v))
-    cases u v = grind arith
-
-    flat : (u v : ℕ) → u < v → nat_lt v u ≡ false
-    flat u v h = grind arith
-
-    lower : (u v : ℕ) → u < v → product_at q u v ≡ product_at q v u
-    lower u v h = ap (λ b. cond b (square_at q.square v u) (square_at q.square u v)) (flat u v h) ∙ sym (ap (λ b. cond b (square_at q.square u v) (square_at q.square v u)) (lt-ltb u v h))
-
     go : (u < v) ⊎ ((v < u) ⊎ (u ≡ v)) → product_at q u v ≡ product_at q v u
-    go (inl h) = lower u v h
-    go (inr (inl h)) = sym (lower v u h)
+    go (inl h) = product_there q u v (omega (arith, h)) ∙ sym (product_back q v u h)
+    go (inr (inl h)) = product_back q u v h ∙ sym (product_there q v u (omega (arith, h)))
     go (inr (inr e)) = ap₂ (product_at q) e (sym e)
+
+-- the coefficient of the product of two variables, or twice that of a square
+pub data SecondIs (q : Quad) (u v : ℕ) (f : Frac) : Type 0 where
+  rising : u < v → f ≡ square_at q.square u v → SecondIs q u v f
+  falling : v < u → f ≡ square_at q.square v u → SecondIs q u v f
+  square : u ≡ v → IsSecondBy true (square_at q.square u u) f → SecondIs q u v f
+
+pub second_is : (q : Quad) (u v : ℕ) (f : Frac) → IsSecond q u v f → SecondIs q u v f
+second_is q u v f is = go (order u v)
+  where
+    off : u ≢ v → f ≡ product_at q u v
+    off ne = subst (λ b. IsSecondBy b (product_at q u v) f) (apart u v ne) is
+
+    go : (u < v) ⊎ ((v < u) ⊎ (u ≡ v)) → SecondIs q u v f
+    go (inl h) = rising h (off (λ e. omega (arith, h, e)) ∙ product_there q u v (omega (arith, h)))
+    go (inr (inl h)) = falling h (off (λ e. omega (arith, h, e)) ∙ product_back q u v h)
+    go (inr (inr e)) = square e (subst (λ (c : Frac). IsSecondBy true c f) (product_there q u u (omega arith)) (subst (λ b. IsSecondBy b (product_at q u u) f) (same_is u) (subst (λ w. IsSecond q u w f) (sym e) is)))
 
 one_second : (b : Bool) (c f g : Frac) → IsSecondBy b c f → IsSecondBy b c g → f ≡ g
 one_second true c f g h k = one_value (pos 2 *ℤ c.num) c.den f g c.positive h k

@@ -1,5 +1,5 @@
 -- What the answer says of the file.
-use Rattle.std.proofs.Common.{◌≡◌, ◌≢◌, ◌⊎◌, inl, inr, ℕ, zero, suc, ◌+◌, ◌<◌, ◌≤◌, ℤ, pos, neg_ℤ, ◌*ℤ◌, ◌≤ℤ◌, ◌<ℤ◌, Bool, true, false, ◌||◌, not, cond, nat_eq, nat_lt, List, [], ◌∷◌, All, length, slice_index_or, Option, Some, None, Ok, Err, arith, refl, sym, ap, ap₂, subst, subst₂, ◌∙◌}
+use Rattle.std.proofs.Common.{◌≡◌, ◌≢◌, inl, inr, ℕ, zero, suc, ◌+◌, ◌<◌, ◌≤◌, ℤ, pos, neg_ℤ, ◌*ℤ◌, ◌≤ℤ◌, ◌<ℤ◌, Bool, true, false, ◌||◌, not, cond, nat_eq, nat_lt, List, [], ◌∷◌, All, length, slice_index_or, Option, Some, None, Ok, Err, arith, refl, sym, ap, ap₂, subst, subst₂, ◌∙◌}
 use Rattle.std.specs.Prelude.{slice_get, filter}
 use Rattle.std.proofs.lemmas.Bool.{eqb-true, lt-ltb, false≢true}
 use Rattle.std.proofs.lemmas.Option.{none-some, same_Some}
@@ -42,13 +42,12 @@ use Rattle.emp_problem.specs.Left.{signed_for, goal_form}
 use Rattle.emp_problem.specs.ProblemOf.{IsBlockFor, IsPurposeFor, AreBlocksFor, IsProblemOf}
 use Rattle.emp_problem.specs.Class.{BlockFits, IsClassFile}
 use Rattle.emp_share.specs.declared.share.ShareFault.TheVariants.{NotConvex, WideCurve, NoMemory}
-use Rattle.emp_share.specs.Share.{variable_at, product_at, IsSecondBy, IsSecond, AreSeconds, FoldPasses, FoldEnds, DoubleEnds, GoalGives, PurposeGives, BlockPasses, BlockEnds}
+use Rattle.emp_share.specs.Share.{variable_at, IsSecondBy, IsSecond, AreSeconds, FoldPasses, FoldEnds, DoubleEnds, GoalGives, PurposeGives, BlockPasses, BlockEnds}
 use Rattle.emp_share.specs.Laws.{PassingTells, FaultTells}
+use Rattle.emp_share.proofs.Cells.{SecondIs, rising, falling, square}
+use Rattle.emp_share.proofs.Cells as Cells
 
 -- ---- second derivatives as those of the form
-not_before : (u v : ℕ) → u ≤ v → nat_lt v u ≡ false
-not_before u v h = grind arith
-
 twice_quotient : (f c : Frac) (z e : ℤ) → IsSecondBy true c f → IsQuotient c z e → IsQuotient f (pos 2 *ℤ z) e
 twice_quotient f c z e h k =
     cancel_right (f.num *ℤ e) (pos 2 *ℤ z *ℤ f.den) c.den
@@ -59,35 +58,21 @@ twice_quotient f c z e h k =
     c.positive
 
 second_form : (q : Quad) (g : Form) (u v : ℕ) (f : Frac) → HasForm q g → IsSecond q u v f → IsQuotient f (second_at g.square u v) g.den
-second_form q g u v f has is = go (cases u v)
+second_form q g u v f has is = go (Cells.second_is q u v f is)
   where
-    cases : (u v : ℕ) → (u < v) ⊎ ((v < u) ⊎ (u ≡ v))
-    cases u v = grind arith
-
-    off : u ≢ v → f ≡ product_at q u v
-    off ne = subst (λ b. IsSecondBy b (product_at q u v) f) (apart u v ne) is
-
     product : (z : ℤ) (c : Frac) → f ≡ c → second_at g.square u v ≡ z → IsQuotient c z g.den → IsQuotient f (second_at g.square u v) g.den
     product z c e k h = subst (λ (f : Frac). IsQuotient f (second_at g.square u v) g.den) (sym e) (subst (λ z. IsQuotient c z g.den) (sym k) h)
 
     unlike : u ≢ v → second_at g.square u v ≡ cond (nat_lt v u) (g.square v u) (g.square u v)
     unlike ne = ap (λ b. cond b (pos 2 *ℤ g.square u u) (cond (nat_lt v u) (g.square v u) (g.square u v))) (apart v u (λ e. ne (sym e)))
 
-    go : (u < v) ⊎ ((v < u) ⊎ (u ≡ v)) → IsQuotient f (second_at g.square u v) g.den
-    go (inl h) =
-        let ne : u ≢ v = λ e. omega (arith, h, e) in
-        let b = not_before u v (omega (arith, h)) in
-        product (g.square u v) (square_at q.square u v) (off ne ∙ ap (λ b. cond b (square_at q.square v u) (square_at q.square u v)) b) (unlike ne ∙ ap (λ b. cond b (g.square v u) (g.square u v)) b) (has.square u v (omega (arith, h)))
-    go (inr (inl h)) =
-        let ne : u ≢ v = λ e. omega (arith, h, e) in
-        let b = lt-ltb v u h in
-        product (g.square v u) (square_at q.square v u) (off ne ∙ ap (λ b. cond b (square_at q.square v u) (square_at q.square u v)) b) (unlike ne ∙ ap (λ b. cond b (g.square v u) (g.square u v)) b) (has.square v u (omega (arith, h)))
-    go (inr (inr e)) =
+    go : SecondIs q u v f → IsQuotient f (second_at g.square u v) g.den
+    go (rising h e) = product (g.square u v) (square_at q.square u v) e (unlike (λ s. omega (arith, h, s)) ∙ ap (λ b. cond b (g.square v u) (g.square u v)) (Cells.not_before u v (omega (arith, h)))) (has.square u v (omega (arith, h)))
+    go (falling h e) = product (g.square v u) (square_at q.square v u) e (unlike (λ s. omega (arith, h, s)) ∙ ap (λ b. cond b (g.square v u) (g.square u v)) (lt-ltb v u h)) (has.square v u (omega (arith, h)))
+    go (square e d) =
         subst (λ w. IsQuotient f (second_at g.square u w) g.den) e
         (subst (λ z. IsQuotient f z g.den) (sym (ap (λ b. cond b (pos 2 *ℤ g.square u u) (cond (nat_lt u u) (g.square u u) (g.square u u))) (same_is u)))
-        (twice_quotient f (square_at q.square u u) (g.square u u) g.den
-        (subst (λ (c : Frac). IsSecondBy true c f) (ap (λ b. cond b (square_at q.square u u) (square_at q.square u u)) (not_before u u (omega arith))) (subst (λ b. IsSecondBy b (product_at q u u) f) (same_is u) (subst (λ w. IsSecond q u w f) (sym e) is)))
-        (has.square u u (omega arith))))
+        (twice_quotient f (square_at q.square u u) (g.square u u) g.den d (has.square u u (omega arith))))
 
 -- the sign of the objective
 signed_second : (o : Option (Sense × ℕ)) (g : Form) (u v : ℕ) → second_at (signed_for o g).square u v ≡ for_objective o (second_at g.square u v)

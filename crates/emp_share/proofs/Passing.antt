@@ -1,5 +1,5 @@
 -- Where all agents pass, the game is convex.
-use Rattle.std.proofs.Common.{◌≡◌, ◌≢◌, ◌⊎◌, inl, inr, ℕ, zero, suc, ◌<◌, ◌≤◌, ℤ, pos, ◌+ℤ◌, ◌*ℤ◌, ◌<ℤ◌, Bool, true, false, ◌||◌, cond, nat_eq, nat_lt, List, [], ◌∷◌, All, map, length, slice_index_or, Ok, arith, refl, sym, ap, ap₂, subst, ◌∙◌}
+use Rattle.std.proofs.Common.{◌≡◌, ℕ, zero, suc, ◌<◌, ◌≤◌, ℤ, pos, ◌+ℤ◌, ◌*ℤ◌, ◌<ℤ◌, Bool, true, false, ◌||◌, cond, nat_eq, List, [], ◌∷◌, All, map, length, slice_index_or, Ok, arith, refl, sym, ap, ap₂, subst, ◌∙◌}
 use Rattle.std.proofs.lemmas.Bool.{eqb-true, lt-ltb}
 use Rattle.std.proofs.lemmas.List.{length-map, get_or-map}
 use Rattle.std.proofs.lemmas.List.Elements.{All-head, All-tail}
@@ -11,7 +11,6 @@ use Rattle.emp_num.specs.declared.frac.Frac.{Frac}
 use Rattle.emp_ast.specs.declared.tree.VarId.{VarId}
 use Rattle.emp_poly.specs.Quads.{square_at}
 use Rattle.emp_poly.specs.declared.quad.Quad.{Quad}
-use Rattle.emp_poly.proofs.QuadForms.{same_is, apart}
 use Rattle.emp_ldl.specs.Form.{entry, entries}
 use Rattle.emp_ldl.specs.Laws.{Over}
 use Rattle.emp_systems.specs.Lagrange.{IsOwnConvex}
@@ -29,8 +28,9 @@ use Rattle.emp_problem.specs.declared.problem.BlockPart.{BlockPart}
 use Rattle.emp_problem.specs.Left.{place_in}
 use Rattle.emp_problem.specs.Problem.{left_of, times_over, upper_at, quad_quadratic, game_purpose, game_player, IsWholeOver, QuadIsOver, PurposeIsOver, BlockIsOver}
 use Rattle.emp_whole.proofs.Games.{cross_none, cell_map, row_of-map}
-use Rattle.emp_share.specs.Share.{variable_at, product_at, IsSecondBy, IsSecond, AreSeconds, FoldPasses, PurposeGives, BlockPasses}
+use Rattle.emp_share.specs.Share.{variable_at, IsSecondBy, IsSecond, AreSeconds, FoldPasses, PurposeGives, BlockPasses}
 use Rattle.emp_share.specs.Laws.{PassingIsConvex}
+use Rattle.emp_share.proofs.Cells.{not_before, SecondIs, rising, falling, square, second_is}
 
 -- ---- places of variables
 place_back : (vs : List ℕ) (v : ℕ) → place_in vs v < length vs → slice_index_or vs (place_in vs v) 0 ≡ v
@@ -74,9 +74,6 @@ module _ (n : ℤ) (q : Quad) (over : QuadIsOver n q) where
   abbrev whole_at : ℕ → ℕ → ℤ
   whole_at u v = times_over n (upper_at q u v)
 
-  not_before : (u v : ℕ) → u ≤ v → nat_lt v u ≡ false
-  not_before u v h = grind arith
-
   upper_there : (u v : ℕ) → u ≤ v → upper_at q u v ≡ square_at q.square u v
   upper_there u v h = ap (λ b. cond b (whole 0) (square_at q.square u v)) (not_before u v h)
 
@@ -89,23 +86,14 @@ module _ (n : ℤ) (q : Quad) (over : QuadIsOver n q) where
       (other_over n (square_at q.square u v) (whole_at u v) (whole_at v u) (over.square u v) (ap (times_over n) (upper_there u v (omega (arith, h)))) (upper_none v u h))
 
   second_over : (u v : ℕ) (f : Frac) → IsSecond q u v f → f.num *ℤ n ≡ (whole_at u v +ℤ whole_at v u) *ℤ f.den
-  second_over u v f is = go (cases u v)
+  second_over u v f is = go (second_is q u v f is)
     where
-      cases : (u v : ℕ) → (u < v) ⊎ ((v < u) ⊎ (u ≡ v))
-      cases u v = grind arith
-
-      off : u ≢ v → f ≡ product_at q u v
-      off ne = subst (λ b. IsSecondBy b (product_at q u v) f) (apart u v ne) is
-
-      go : (u < v) ⊎ ((v < u) ⊎ (u ≡ v)) → f.num *ℤ n ≡ (whole_at u v +ℤ whole_at v u) *ℤ f.den
-      go (inl h) = lower_over u v f h (off (λ e. omega (arith, h, e)) ∙ ap (λ b. cond b (square_at q.square v u) (square_at q.square u v)) (not_before u v (omega (arith, h))))
-      go (inr (inl h)) =
-          lower_over v u f h (off (λ e. omega (arith, h, e)) ∙ ap (λ b. cond b (square_at q.square v u) (square_at q.square u v)) (lt-ltb v u h))
-          ∙ by_ring (whole_at v u ∷ whole_at u v ∷ f.den ∷ []) ((var 0 ⊕ var 1) ⊗ var 2) ((var 1 ⊕ var 0) ⊗ var 2) refl
-      go (inr (inr e)) =
+      go : SecondIs q u v f → f.num *ℤ n ≡ (whole_at u v +ℤ whole_at v u) *ℤ f.den
+      go (rising h e) = lower_over u v f h e
+      go (falling h e) = lower_over v u f h e ∙ by_ring (whole_at v u ∷ whole_at u v ∷ f.den ∷ []) ((var 0 ⊕ var 1) ⊗ var 2) ((var 1 ⊕ var 0) ⊗ var 2) refl
+      go (square e d) =
           subst (λ w. f.num *ℤ n ≡ (whole_at u w +ℤ whole_at w u) *ℤ f.den) e
-          (subst (λ (c : Frac). f.num *ℤ n ≡ (times_over n c +ℤ times_over n c) *ℤ f.den) (sym (upper_there u u (omega arith)))
-          (own_over n (square_at q.square u u) f (over.square u u) (subst (λ (c : Frac). IsSecondBy true c f) (ap (λ b. cond b (square_at q.square u u) (square_at q.square u u)) (not_before u u (omega arith))) (subst (λ b. IsSecondBy b (product_at q u u) f) (same_is u) (subst (λ w. IsSecond q u w f) (sym e) is)))))
+          (subst (λ (c : Frac). f.num *ℤ n ≡ (times_over n c +ℤ times_over n c) *ℤ f.den) (sym (upper_there u u (omega arith))) (own_over n (square_at q.square u u) f (over.square u u) d))
 
 -- ---- one player
 module _ (n : ℤ) (positive : pos 0 <ℤ n) (vs : List ℕ) (own : List VarId) (below : (k : ℕ) → names (map (λ v. place_in vs v.at) own) k ≡ true → k < length vs) where
