@@ -3,3 +3,4 @@ pub mod Places
 pub mod Rows
 pub mod Verdicts
 pub mod Rays
+pub mod Meaning
