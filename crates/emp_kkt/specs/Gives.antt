@@ -27,11 +27,16 @@ abbrev pub HasFunctions : List VarId → Purpose → Type 0
 HasFunctions own (Aim q) = Unit {0}
 HasFunctions own (Flow fs) = length fs ≡ length own
 
+abbrev pub LeaderFits : AgentProblem → Option LeaderPart → Type 0
+LeaderFits pr None = Unit {0}
+LeaderFits pr (Some l) = All (λ v. place_of pr v < length pr.variables) l.own
+
 -- own and dual variables are among those that are left, and there is a function for each own variable
 pub record IsFit (pr : AgentProblem) : Type 0 where
   pub own : All (λ b. All (λ v. place_of pr v < length pr.variables) b.own) pr.blocks
   pub functions : All (λ b. HasFunctions b.own b.purpose) pr.blocks
   pub duals : All (λ d. place_of pr d.0 < length pr.variables) pr.duals
+  pub leader : LeaderFits pr pr.leader
 
 -- ---- sizes, which are the same over every number
 abbrev pub Fits : AgentProblem → Type 0

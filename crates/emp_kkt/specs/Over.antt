@@ -22,13 +22,13 @@ raised n (multiplier j e ∷ bs) (x ∷ xs) = x ∷ raised n bs xs
 abbrev pub over : ℤ → Game → List ℤ → List ℤ
 over n g xs = take (coordinates g) xs ++ raised n (base_slots g) (drop (coordinates g) xs)
 
--- the quantity is the row times a number above 0
+-- the quantity is the row times a number above 0, where there is a number for each base variable
 pub record IsMultipleOver (n : ℤ) (g : Game) (q : Affine) (r : Row) : Type 0 where
   pub top : ℤ
   pub bottom : ℤ
   pub top_positive : pos 0 <ℤ top
   pub bottom_positive : pos 0 <ℤ bottom
-  pub equal : (d : ℤ) (xs : List ℤ) → bottom *ℤ value_times q.constant q.cells d xs ≡ top *ℤ value_at r d (over n g xs)
+  pub equal : (d : ℤ) (xs : List ℤ) → length xs ≡ coordinates g + length (base_slots g) → bottom *ℤ value_times q.constant q.cells d xs ≡ top *ℤ value_at r d (over n g xs)
 
 abbrev pub AreMultiplesOver : ℤ → Game → List Affine → List Row → Type 0
 AreMultiplesOver n g [] [] = Unit {0}
