@@ -6,3 +6,5 @@ pub mod Shapes
 pub mod Meeting
 pub mod Members
 pub mod Values
+pub mod Weights
+pub mod Columns
