@@ -8,3 +8,4 @@ pub mod Members
 pub mod Values
 pub mod Weights
 pub mod Columns
+pub mod Within
