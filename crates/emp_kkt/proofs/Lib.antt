@@ -9,3 +9,4 @@ pub mod Values
 pub mod Weights
 pub mod Columns
 pub mod Within
+pub mod Overs
