@@ -10,3 +10,4 @@ pub mod Weights
 pub mod Columns
 pub mod Within
 pub mod Overs
+pub mod Ending

@@ -103,7 +103,3 @@ ObjectiveGives pr n l number (Ok o) = IsObjectiveRow pr n l o
 ObjectiveGives pr n l number (Err TooLarge) = ⊥
 ObjectiveGives pr n l number (Err (WideRow k)) = (k ≡ number) × HasLeader l × IsWideItem pr n Goal
 ObjectiveGives pr n l number (Err NoMemory) = Unit {0}
-
--- of so many base variables
-abbrev pub SystemGives : AgentProblem → ℕ → Result RowSystem KktFault → Type 0
-SystemGives pr n r = KktGives pr r

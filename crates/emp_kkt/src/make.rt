@@ -1,8 +1,8 @@
 //! The row system of a problem.
-ghost use Rattle.std.specs.Prelude.{◌≡◌, ◌<◌, ◌≤◌, ◌+◌, length};
+ghost use Rattle.std.specs.Prelude.{◌≡◌};
 ghost use Rattle.emp_kkt.specs.Gives.{IsFit, KktGives};
 ghost use Rattle.emp_kkt.specs.Items.{asked};
-ghost use Rattle.emp_kkt.specs.Making.{IsLayout, LayoutGives, SystemGives};
+ghost use Rattle.emp_kkt.specs.Making.{IsLayout, LayoutGives};
 
 use crate::asked::{Asked, asked_of, items_of, kinds_of, pairs_of};
 use crate::extras::{Extra, extras_of};
@@ -59,7 +59,7 @@ fn system_of(
     requires fit { IsFit problem.now }
     requires layout { IsLayout problem.now extras.now }
     requires conditions { conditions.now ≡ asked problem.now }
-    ensures { SystemGives problem.now (length problem.now.variables + length extras.now) result }
+    ensures { KktGives problem.now result }
 {
     let items = items_of(alloc, conditions)?;
     if items.len() > 512 {
