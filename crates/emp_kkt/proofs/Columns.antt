@@ -1,29 +1,25 @@
 -- The coefficients of items are those of their rows, over a number.
-use Rattle.std.proofs.Common.{◌≡◌, ◌⊎◌, inl, inr, ℕ, zero, suc, ◌+◌, ◌<◌, ◌≤◌, ℤ, pos, negsuc, neg_ℤ, ◌+ℤ◌, ◌-ℤ◌, ◌*ℤ◌, ◌<ℤ◌, Bool, true, false, cond, List, [], ◌∷◌, length, get_or, map, Ok, Err, Some, refl, sym, ap, ap₂, subst, ◌∙◌, arith, nat_eq, nat_lt, int_div}
+use Rattle.std.proofs.Common.{◌≡◌, ◌⊎◌, inl, inr, ℕ, zero, suc, ◌<◌, ◌≤◌, ℤ, pos, negsuc, neg_ℤ, ◌+ℤ◌, ◌*ℤ◌, Bool, true, false, cond, List, [], ◌∷◌, length, get_or, map, Ok, refl, sym, ap, ap₂, subst, ◌∙◌, arith, nat_eq, nat_lt, int_div}
 use lib.IntN.{zero-*ℤ, *ℤ-zero, *ℤ_comm}
 use Rattle.std.specs.List.{All}
-use Rattle.std.proofs.lemmas.Int.{ints}
 use Rattle.std.proofs.lemmas.Bool.{eqb-true, eqb-false, ltb-true, lt-ltb, le-ltb}
 use Rattle.std.proofs.lemmas.List.{length-map}
 use Rattle.std.proofs.lemmas.List.Elements.{All-get_or}
-use Rattle.emp_algebra.specs.Vector.{cell, scale, add_rows}
+use Rattle.emp_algebra.specs.Vector.{cell, add_rows}
 use Rattle.emp_algebra.proofs.Vectors.{cell-scale}
-use Rattle.emp_algebra.proofs.Laws.{mul_pos, neg_ℤ-*ℤ}
+use Rattle.emp_algebra.proofs.Laws.{neg_ℤ-*ℤ}
 use Rattle.emp_algebra.proofs.Order.{cancel_right}
-use Rattle.emp_algebra.proofs.Ring.{var, lit, neg, ◌⊕◌, ◌⊖◌, ◌⊗◌, by_ring}
+use Rattle.emp_algebra.proofs.Ring.{var, lit, neg, ◌⊕◌, ◌⊗◌, by_ring}
 use Rattle.emp_num.specs.FracSpec.{IsQuotient}
 use Rattle.emp_num.specs.Whole.{whole}
-use Rattle.emp_num.specs.Opposite.{opposite}
 use Rattle.emp_num.specs.declared.frac.Frac.{Frac}
 use Rattle.emp_systems.specs.Own.{unit}
 use Rattle.emp_systems.proofs.Own.{unit_other}
-use Rattle.emp_ast.specs.declared.tree.VarId.{VarId}
 use Rattle.emp_poly.specs.Quads.{linear_at, square_at}
 use Rattle.emp_poly.specs.declared.quad.Quad.{Quad}
 use Rattle.emp_poly.specs.declared.quad.Lin.{Lin}
 use Rattle.emp_game.specs.Game.{Row as GameRow}
 use Rattle.emp_game.specs.Conditions.{column, row_of, derivative}
-use Rattle.emp_conditions.specs.Rows.{opposite as opposite_row}
 use Rattle.emp_problem.specs.declared.problem.Purpose.{Purpose}
 use Rattle.emp_problem.specs.declared.problem.Purpose.TheVariants.{Goal as Aim, Flow}
 use Rattle.emp_problem.specs.declared.problem.BlockPart.{BlockPart}
@@ -31,7 +27,7 @@ use Rattle.emp_problem.specs.declared.problem.AgentProblem.{AgentProblem}
 use Rattle.emp_problem.specs.Left.{place_in}
 use Rattle.emp_problem.specs.Problem.{left_of, times_over, lin_row, upper_at, quad_quadratic, IsWholeOver, LinIsOver, QuadIsOver, PurposeIsOver}
 use Rattle.emp_kkt.specs.Items.{no_lin, own_at}
-use Rattle.emp_kkt.specs.Cells.{Gives, signed_frac, lin_cell, TwiceGives, PartialBy, PartialGives, PurposeGives, StartBy, StartGives, purpose_constant}
+use Rattle.emp_kkt.specs.Cells.{Gives, signed_frac, lin_cell, PartialBy, PartialGives, PurposeGives, StartBy, StartGives, purpose_constant}
 use Rattle.emp_kkt.proofs.Values.{past_end}
 use Rattle.emp_kkt.proofs.Meeting.{function_of, signed_row}
 

@@ -1,5 +1,5 @@
 -- The row system of a problem is that of its game.
-use Rattle.std.proofs.Common.{◌≡◌, ◌⊎◌, inl, inr, ℕ, zero, suc, ◌+◌, ◌<◌, ◌≤◌, ℤ, pos, List, [], ◌∷◌, ◌++◌, length, get_or, take, map, Option, Some, None, Err, refl, sym, ap, subst, ◌∙◌, arith, length-append}
+use Rattle.std.proofs.Common.{◌≡◌, ℕ, zero, suc, ◌+◌, ◌<◌, ◌≤◌, ℤ, pos, List, [], ◌∷◌, ◌++◌, length, get_or, take, map, Option, Some, None, Err, refl, sym, ap, subst, ◌∙◌, arith, length-append}
 use Rattle.std.specs.List.{All}
 use Rattle.std.proofs.lemmas.List.{length-map, take_all, get_or_append_left}
 use Rattle.emp_rows.specs.declared.affine.Affine.{Affine}
@@ -20,9 +20,9 @@ use Rattle.emp_kkt.specs.declared.asked.Item.{Item}
 use Rattle.emp_kkt.specs.declared.asked.Item.TheVariants.{Goal}
 use Rattle.emp_kkt.specs.declared.make.KktFault.{KktFault}
 use Rattle.emp_kkt.specs.declared.make.KktFault.TheVariants.{TooLarge, WideRow, NoMemory}
-use Rattle.emp_kkt.specs.Items.{shape, base_of, leader_goal, asked, items, items_of, asked_kinds, asked_pairs}
-use Rattle.emp_kkt.specs.Over.{IsMultipleOver, IsObjectiveOver, IsSystemOver, AreMultiplesOver}
-use Rattle.emp_kkt.specs.Gives.{KktGives, IsFit, Fits, base_count, IsMadeOf, IsWideItem, AreMadeOf, IsGoalMade, goal_items, numbered, IsFirstWide, IsKkt}
+use Rattle.emp_kkt.specs.Items.{shape, base_of, leader_goal, asked, items, asked_kinds, asked_pairs}
+use Rattle.emp_kkt.specs.Over.{IsMultipleOver, IsObjectiveOver, AreMultiplesOver}
+use Rattle.emp_kkt.specs.Gives.{KktGives, IsFit, Fits, base_count, IsWideItem, AreMadeOf, IsGoalMade, goal_items, numbered, IsFirstWide, IsKkt}
 use Rattle.emp_kkt.specs.Making.{IsLayout, AreRows, RowsGive, IsObjectiveRow, HasLeader, ObjectiveGives}
 use Rattle.emp_kkt.proofs.Shapes.{base_same}
 use Rattle.emp_kkt.proofs.Meeting.{item_row, asked_meets, rows_meet, kinds_meet, pairs_meet}
@@ -153,8 +153,8 @@ module _ (pr : AgentProblem) (xs : List Extra) (n : ℕ) (is : List Item) (fit :
   pub objective_fault : (qs : List Affine) (number : ℕ) (e : KktFault) → AreRows pr n is qs → number ≡ length is + 1 → ObjectiveGives pr n pr.leader number (Err e) → KktGives pr (Err e)
   objective_fault qs number TooLarge r m f = absurd f
   objective_fault qs number (WideRow k) r m f = (
-      fits pr xs fit h few_items,
-      wide_goal pr xs k qs h (f.0 ∙ (m ∙ ap (λ (l : List Item). length l + 1) items_are)) f.1 (made_here qs r) (subst (λ m. IsWideItem pr m Goal) base f.2),
+    fits pr xs fit h few_items,
+    wide_goal pr xs k qs h (f.0 ∙ (m ∙ ap (λ (l : List Item). length l + 1) items_are)) f.1 (made_here qs r) (subst (λ m. IsWideItem pr m Goal) base f.2),
   )
   objective_fault qs number NoMemory r m f = tt
 

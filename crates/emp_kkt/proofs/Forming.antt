@@ -1,7 +1,6 @@
 -- Quantities.
-use Rattle.std.proofs.Common.{◌≡◌, inl, inr, ℕ, ◌+◌, ◌<◌, ◌≤◌, List, [], ◌∷◌, ◌++◌, length, get_or, take, map, Some, None, Ok, Err, Result, refl, sym, ap, subst, ◌∙◌, arith, below_more}
+use Rattle.std.proofs.Common.{◌≡◌, inr, ℕ, ◌+◌, ◌<◌, ◌≤◌, List, [], ◌∷◌, ◌++◌, length, get_or, take, Some, None, Ok, Err, Result, refl, sym, ap, subst, ◌∙◌, arith, below_more}
 use Rattle.std.specs.Prelude.{IfOk}
-use Rattle.std.specs.List.{All}
 use Rattle.std.proofs.lemmas.List.{take_more, take_all, length_push, get_or_push, get_or_append_left}
 use Rattle.std.proofs.lemmas.List.Elements.{All-nil, All-push}
 use Rattle.emp_num.specs.declared.frac.Frac.{Frac}
@@ -12,8 +11,7 @@ use Rattle.emp_rows.specs.declared.primitive.RowFault.{RowFault}
 use Rattle.emp_rows.specs.declared.primitive.RowFault.TheVariants.{Wide, NoMemory}
 use Rattle.emp_problem.specs.declared.problem.AgentProblem.{AgentProblem}
 use Rattle.emp_kkt.specs.declared.asked.Item.{Item}
-use Rattle.emp_kkt.specs.declared.asked.Item.TheVariants.{Goal}
-use Rattle.emp_kkt.specs.Cells.{CellGives, constant_of, AreCells, HasWideCell}
+use Rattle.emp_kkt.specs.Cells.{CellGives, constant_of, AreCells}
 use Rattle.emp_kkt.specs.Gives.{IsMadeOf, AreMadeOf}
 use Rattle.emp_kkt.specs.Making.{RowGives, AreRows}
 

@@ -1,15 +1,13 @@
 -- What is asked of a problem is what its game's conditions ask, over every number.
-use Rattle.std.proofs.Common.{◌≡◌, ℕ, zero, suc, ◌+◌, ◌<◌, ℤ, pos, Bool, true, false, cond, List, [], ◌∷◌, ◌++◌, map, length, get_or, Option, Some, None, refl, sym, ap, ap₂, subst, ◌∙◌, arith, nat_eq, append_assoc}
+use Rattle.std.proofs.Common.{◌≡◌, ℕ, zero, suc, ◌+◌, ◌<◌, ℤ, pos, Bool, true, false, cond, List, [], ◌∷◌, ◌++◌, map, length, get_or, Option, Some, None, refl, sym, ap, ap₂, ◌∙◌, arith, nat_eq, append_assoc}
 use Rattle.std.specs.List.{All}
-use Rattle.std.proofs.lemmas.List.{map-append, length-map, get_or-map}
+use Rattle.std.proofs.lemmas.List.{map-append, length-map}
 use Rattle.std.proofs.lemmas.List.Elements.{All-head, All-tail}
-use Rattle.emp_num.specs.declared.frac.Frac.{Frac}
 use Rattle.emp_ast.specs.declared.tree.VarId.{VarId}
 use Rattle.emp_ast.specs.declared.model.End.{End}
 use Rattle.emp_ast.specs.declared.model.End.TheVariants.{Open, At}
 use Rattle.emp_ast.specs.declared.model.Relation.{Relation}
 use Rattle.emp_ast.specs.declared.model.Relation.TheVariants.{Equal, AtLeast, AtMost, Nothing}
-use Rattle.emp_rows.specs.declared.system.Kind.{Kind}
 use Rattle.emp_rows.specs.declared.system.Kind.TheVariants as Kinds
 use Rattle.emp_poly.specs.declared.quad.Lin.{Lin}
 use Rattle.emp_game.specs.Game.{Row as GameRow, Player, range_at}
@@ -29,7 +27,7 @@ use Rattle.emp_kkt.specs.declared.asked.Item.{Item}
 use Rattle.emp_kkt.specs.declared.asked.Item.TheVariants.{Low, High, Slope, Raised, Row, LeaderRow, Goal, Alone}
 use Rattle.emp_kkt.specs.declared.asked.Asked.{Asked}
 use Rattle.emp_kkt.specs.declared.asked.Asked.TheVariants.{ToBeZero, ToBeNonneg, Pair}
-use Rattle.emp_kkt.specs.Items.{shape, place_of, no_lin, no_part, part_at, own_at, rule_at, leader_goal, range_asked, coordinate_asked, own_asked, rule_asked, one_rule_asked, rules_asked, blocks_asked, leader_range_asked, leader_own_asked, leader_rule_asked, leader_rules_asked, leader_asked, asked, items_one, items_of, kinds_one, asked_kinds, pairs_one, asked_pairs}
+use Rattle.emp_kkt.specs.Items.{shape, place_of, no_lin, no_part, part_at, own_at, rule_at, leader_goal, range_asked, coordinate_asked, own_asked, rule_asked, rules_asked, blocks_asked, leader_range_asked, leader_own_asked, leader_rule_asked, leader_rules_asked, leader_asked, asked, items_of, asked_kinds, asked_pairs}
 use Rattle.emp_kkt.specs.Items.{leader_rules as rules_of_leader}
 use Rattle.emp_kkt.specs.Gives.{HasFunctions}
 use Rattle.emp_kkt.specs.Making.{own_places}
@@ -165,8 +163,8 @@ module _ (n : ℤ) (pr : AgentProblem) where
 
   functions_meet : (j : ℕ) (own : List VarId) (p : Purpose) (rules : List Rule) → part_at pr j ≡ record { own = own; purpose = p; rules = rules } → HasFunctions own p → Meets j (record { own = own; purpose = p; rules = rules })
   functions_meet j own (Aim q) rules e h = (
-      length-map (own_places pr own) (derivative (quad_quadratic n (left_of pr) q)) ∙ length-map own (place_of pr),
-      λ m l. slope_at j m (record { own = own; purpose = Aim q; rules = rules }) (get_or (map (derivative (quad_quadratic n (left_of pr) q)) (own_places pr own)) m no_row) e (place_read own m l),
+    length-map (own_places pr own) (derivative (quad_quadratic n (left_of pr) q)) ∙ length-map own (place_of pr),
+    λ m l. slope_at j m (record { own = own; purpose = Aim q; rules = rules }) (get_or (map (derivative (quad_quadratic n (left_of pr) q)) (own_places pr own)) m no_row) e (place_read own m l),
   )
     where
       place_read : (ks : List VarId) (m : ℕ) → m < length ks → derivative (quad_quadratic n (left_of pr) q) (place_of pr (own_at ks m)) ≡ get_or (map (derivative (quad_quadratic n (left_of pr) q)) (own_places pr ks)) m no_row
@@ -174,8 +172,8 @@ module _ (n : ℤ) (pr : AgentProblem) where
       place_read (k ∷ ks) zero l = refl
       place_read (k ∷ ks) (suc m) l = place_read ks m (omega (arith, l))
   functions_meet j own (Flow fs) rules e h = (
-      length-map fs (lin_row n (left_of pr)) ∙ h,
-      λ m l. slope_at j m (record { own = own; purpose = Flow fs; rules = rules }) (get_or (map (lin_row n (left_of pr)) fs) m no_row) e (function_read fs m (let k : m < length fs = omega (arith, l, h) in k)),
+    length-map fs (lin_row n (left_of pr)) ∙ h,
+    λ m l. slope_at j m (record { own = own; purpose = Flow fs; rules = rules }) (get_or (map (lin_row n (left_of pr)) fs) m no_row) e (function_read fs m (let k : m < length fs = omega (arith, l, h) in k)),
   )
     where
       function_read : (ls : List Lin) (m : ℕ) → m < length ls → lin_row n (left_of pr) (get_or ls m no_lin) ≡ get_or (map (lin_row n (left_of pr)) ls) m no_row

@@ -7,7 +7,7 @@ use Rattle.emp_rows.specs.declared.system.Kind.TheVariants.{Zero, Nonneg}
 use Rattle.emp_rows.specs.Systems.{IsMember, members, AllDiffer}
 use Rattle.emp_kkt.specs.declared.asked.Asked.{Asked}
 use Rattle.emp_kkt.specs.declared.asked.Asked.TheVariants.{ToBeZero, ToBeNonneg, Pair}
-use Rattle.emp_kkt.specs.Items.{items_one, items_of, kinds_one, asked_kinds, pairs_one, asked_pairs}
+use Rattle.emp_kkt.specs.Items.{items_of, asked_kinds, asked_pairs}
 
 pub kinds_count : (cs : List Asked) → length (asked_kinds cs) ≡ length (items_of cs)
 kinds_count [] = refl

@@ -1,13 +1,10 @@
 -- Each quantity is a multiple of its row, over every number that the fractions are over.
-use Rattle.std.proofs.Common.{◌≡◌, ◌⊎◌, inl, inr, ℕ, zero, suc, ◌+◌, ◌<◌, ◌≤◌, ℤ, pos, negsuc, neg_ℤ, ◌+ℤ◌, ◌-ℤ◌, ◌*ℤ◌, ◌<ℤ◌, Bool, true, false, cond, List, [], ◌∷◌, length, get_or, map, Ok, Err, Option, Some, None, refl, sym, ap, ap₂, subst, ◌∙◌, arith, nat_eq}
+use Rattle.std.proofs.Common.{◌≡◌, ◌⊎◌, inl, inr, ℕ, suc, ◌+◌, ◌<◌, ◌≤◌, ℤ, pos, neg_ℤ, ◌+ℤ◌, ◌-ℤ◌, ◌*ℤ◌, ◌<ℤ◌, Bool, true, false, cond, List, [], ◌∷◌, length, get_or, map, Ok, Option, Some, None, refl, sym, ap, ap₂, subst, ◌∙◌, arith, nat_eq}
 use lib.IntN.{zero-*ℤ, *ℤ-zero, *ℤ_comm}
 use Rattle.std.specs.List.{All}
-use Rattle.std.proofs.lemmas.Int.{ints}
 use Rattle.std.proofs.lemmas.Bool.{eqb-true, ne_eqb, eq-eqb}
-use Rattle.std.proofs.lemmas.List.{length-map}
 use Rattle.std.proofs.lemmas.List.Elements.{All-get_or, All-head, All-tail}
-use Rattle.emp_algebra.specs.Vector.{cell, add_rows}
-use Rattle.emp_algebra.specs.Deciding.{value_times}
+use Rattle.emp_algebra.specs.Vector.{cell}
 use Rattle.emp_algebra.proofs.Laws.{neg_ℤ-*ℤ, +ℤ-*ℤ}
 use Rattle.emp_algebra.proofs.Order.{cancel_right}
 use Rattle.emp_algebra.proofs.Ring.{var, lit, neg, ◌⊕◌, ◌⊖◌, ◌⊗◌, by_ring}
@@ -27,22 +24,20 @@ use Rattle.emp_problem.specs.declared.problem.Rule.{Rule}
 use Rattle.emp_problem.specs.declared.problem.Purpose.{Purpose}
 use Rattle.emp_problem.specs.declared.problem.Purpose.TheVariants.{Goal as Aim, Flow}
 use Rattle.emp_problem.specs.declared.problem.LeaderPart.{LeaderPart}
-use Rattle.emp_problem.specs.declared.problem.BlockPart.{BlockPart}
 use Rattle.emp_problem.specs.declared.problem.AgentProblem.{AgentProblem}
-use Rattle.emp_problem.specs.Left.{place_in}
-use Rattle.emp_problem.specs.Problem.{left_of, times_over, lin_row, game_rule, game, LinIsOver, PurposeIsOver, BlockIsOver, LeaderIsOver, IsOver}
+use Rattle.emp_problem.specs.Problem.{left_of, times_over, lin_row, game_rule, game, LinIsOver, BlockIsOver, LeaderIsOver, IsOver}
 use Rattle.emp_kkt.specs.declared.asked.Item.{Item}
 use Rattle.emp_kkt.specs.declared.asked.Item.TheVariants.{Low, High, Slope, Raised, Row, LeaderRow, Goal, Alone}
-use Rattle.emp_kkt.specs.Items.{shape, place_of, no_lin, no_part, no_rule, no_variable, part_at, own_at, rule_at, leader_rules, leader_goal}
-use Rattle.emp_kkt.specs.Cells.{unit_frac, signed_frac, lin_cell, ThenGives, LessGives, RuleBy, RuleGives, ChargesGive, SlopeGives, SignedGives, RaisedBy, CellGives, slope_constant, constant_of}
-use Rattle.emp_kkt.specs.Gives.{IsFit, IsMadeOf, AreMadeOf, IsGoalMade}
-use Rattle.emp_kkt.specs.Over.{over, IsMultipleOver, AreMultiplesOver, IsObjectiveOver}
+use Rattle.emp_kkt.specs.Items.{shape, place_of, no_lin, no_part, no_rule, part_at, own_at, rule_at, leader_rules, leader_goal}
+use Rattle.emp_kkt.specs.Cells.{unit_frac, signed_frac, lin_cell, RuleBy, RuleGives, ChargesGive, SlopeGives, RaisedBy, CellGives, slope_constant, constant_of}
+use Rattle.emp_kkt.specs.Gives.{IsFit, IsMadeOf, AreMadeOf}
+use Rattle.emp_kkt.specs.Over.{IsMultipleOver, AreMultiplesOver}
 use Rattle.emp_kkt.specs.Making.{PurposeFits}
 use Rattle.emp_kkt.proofs.Shapes.{base_same, range_place_same, multiplier_place_same}
 use Rattle.emp_kkt.proofs.Meeting.{function_of, signed_row, slope, own_place, item_row}
-use Rattle.emp_kkt.proofs.Values.{firsts, AreOver, IsValue, made_over, weight, firsts_dot}
+use Rattle.emp_kkt.proofs.Values.{firsts, AreOver, IsValue, made_over, firsts_dot}
 use Rattle.emp_kkt.proofs.Weights.{weight_low, weight_high, weight_above, range_weight, coordinates_are, multiplier_counts_once, multiplier_is_no_range, W}
-use Rattle.emp_kkt.proofs.Columns.{zero_quotient, zero_over, signed, signed_quotient, signed_cell, signed_constant, signed_times, cell-add_rows, unit_by, unit_turned, whole_quotient, lin_over, lin_past, lin_at_place, function_past, FlowFits, start_over, constant_over}
+use Rattle.emp_kkt.proofs.Columns.{zero_quotient, zero_over, signed_quotient, signed_cell, signed_constant, signed_times, cell-add_rows, unit_by, unit_turned, whole_quotient, lin_over, lin_past, lin_at_place, function_past, FlowFits, start_over, constant_over}
 use Rattle.emp_kkt.proofs.Within.{SlopeIn, RaisedIn, ItemIn}
 
 below_or_not : (i n : ℕ) → (i < n) ⊎ (n ≤ i)

@@ -1,5 +1,5 @@
 -- Where the parts of a problem stand.
-use Rattle.std.proofs.Common.{◌≡◌, negsuc, ℕ, zero, suc, ◌+◌, ◌<◌, ◌≤◌, ℤ, pos, ◌-ℤ◌, ◌*ℤ◌, Bool, true, false, cond, ◌||◌, List, [], ◌∷◌, ◌++◌, length, get_or, drop, map, Option, Some, None, refl, sym, ap, subst, ◌∙◌, append_assoc, append-nil, arith, nat_eq}
+use Rattle.std.proofs.Common.{◌≡◌, negsuc, ℕ, zero, suc, ◌+◌, ◌<◌, ◌≤◌, ℤ, pos, ◌-ℤ◌, ◌*ℤ◌, Bool, true, false, cond, List, [], ◌∷◌, ◌++◌, length, get_or, drop, map, refl, sym, ap, ◌∙◌, append_assoc, arith, nat_eq}
 use Rattle.std.proofs.lemmas.Int.{ints}
 use Rattle.std.proofs.lemmas.List.{drop_more, drop_all, map-append}
 use Rattle.std.proofs.lemmas.Bool.{eq-eqb, ne_eqb}
@@ -17,7 +17,7 @@ use Rattle.emp_problem.specs.declared.problem.Rule.{Rule}
 use Rattle.emp_problem.specs.declared.problem.BlockPart.{BlockPart}
 use Rattle.emp_problem.specs.declared.problem.AgentProblem.{AgentProblem}
 use Rattle.emp_problem.specs.Left.{place_in}
-use Rattle.emp_problem.specs.Problem.{left_of, game_rule, game_player}
+use Rattle.emp_problem.specs.Problem.{left_of, game_player}
 use Rattle.emp_kkt.specs.declared.extras.Extra.{Extra}
 use Rattle.emp_kkt.specs.declared.extras.Extra.TheVariants.{Range, Multiplier}
 use Rattle.emp_kkt.specs.Items.{shape, place_of, base_of}

@@ -1,5 +1,5 @@
 -- Where base variables stand is the same over every number.
-use Rattle.std.proofs.Common.{◌≡◌, ℕ, suc, ◌+◌, ℤ, pos, Bool, ◌&&◌, ◌||◌, cond, List, [], ◌∷◌, ◌++◌, map, refl, ap, ap₂, nat_eq}
+use Rattle.std.proofs.Common.{◌≡◌, ℕ, suc, ◌+◌, ℤ, pos, ◌&&◌, ◌||◌, cond, List, [], ◌∷◌, ◌++◌, map, refl, ap, ap₂, nat_eq}
 use Rattle.std.specs.Prelude.{is_none}
 use Rattle.emp_game.specs.Game.{names}
 use Rattle.emp_split.specs.Games.{coordinates, has_rule, dual_of}

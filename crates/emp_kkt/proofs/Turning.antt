@@ -1,5 +1,5 @@
 -- Coefficients.
-use Rattle.std.proofs.Common.{◌≡◌, inr, ℕ, ◌+◌, ◌<◌, ℤ, pos, neg_ℤ, Bool, true, false, cond, nat_lt, nat_eq, List, [], ◌∷◌, length, get_or, drop, Ok, Err, Result, refl, sym, ap, subst, ◌∙◌, arith, zero, suc}
+use Rattle.std.proofs.Common.{◌≡◌, inr, ℕ, ◌+◌, ◌<◌, neg_ℤ, Bool, true, false, cond, nat_lt, List, [], ◌∷◌, length, get_or, drop, Ok, Err, refl, sym, ap, subst, ◌∙◌, arith, zero, suc}
 use Rattle.std.proofs.lemmas.List.{drop_more, drop_all}
 use Rattle.emp_num.proofs.Same.{frac_eq}
 use Rattle.emp_num.specs.Opposite.{opposite}
@@ -10,7 +10,7 @@ use Rattle.emp_problem.specs.declared.problem.Rule.{Rule}
 use Rattle.emp_problem.specs.declared.problem.BlockPart.{BlockPart}
 use Rattle.emp_problem.specs.declared.problem.AgentProblem.{AgentProblem}
 use Rattle.emp_kkt.specs.Items.{no_lin, no_variable, own_at}
-use Rattle.emp_kkt.specs.Cells.{Gives, signed_frac, lin_cell, ThenGives, RuleGives, ChargesGive, StartGives, SlopeGives}
+use Rattle.emp_kkt.specs.Cells.{Gives, lin_cell, ThenGives, RuleGives, ChargesGive, StartGives, SlopeGives}
 
 -- ---- signs
 pub turned_is : (f r : Frac) → r.num ≡ neg_ℤ f.num → r.den ≡ f.den → r ≡ opposite f
@@ -29,6 +29,7 @@ charge_more pr j v at rs k x c m r h is g rest =
     (then_step (RuleGives pr j v at x c) (ChargesGive pr j v at (drop (k + 1) rs)) m g r rest)
 
 pub ruleset charging = (charge_more, drop_all)
+
 -- ---- no leader
 pub no_goal : (pr : AgentProblem) (at : ℕ) → whole 0 ≡ lin_cell pr no_lin at
 no_goal pr at = go (nat_lt at (length pr.variables))
@@ -38,6 +39,7 @@ no_goal pr at = go (nat_lt at (length pr.variables))
     go false = refl
 
 pub ruleset leading = (no_goal)
+
 pub ruleset reading = (drop_more, drop_all)
 
 -- ---- parts by number

@@ -1,5 +1,5 @@
 -- The base variables that are ranges, whose numbers are taken times n, and those that are not.
-use Rattle.std.proofs.Common.{◌≡◌, ℕ, zero, suc, ◌+◌, ◌<◌, ◌≤◌, ℤ, pos, ◌<ℤ◌, Bool, true, false, cond, ◌&&◌, List, [], ◌∷◌, length, map, Option, Some, None, refl, sym, ap, subst, ◌∙◌, arith, nat_eq}
+use Rattle.std.proofs.Common.{◌≡◌, ℕ, zero, suc, ◌+◌, ◌<◌, ℤ, pos, ◌<ℤ◌, Bool, true, false, cond, ◌&&◌, List, [], ◌∷◌, length, map, Option, Some, None, refl, ap, subst, ◌∙◌, arith, nat_eq}
 use Rattle.std.specs.List.{All}
 use Rattle.std.proofs.lemmas.Int.{ints}
 use Rattle.std.proofs.lemmas.List.Elements.{All-head, All-tail}
@@ -8,7 +8,7 @@ use Rattle.emp_ast.specs.declared.tree.VarId.{VarId}
 use Rattle.emp_ast.specs.declared.tree.EquId.{EquId}
 use Rattle.emp_split.specs.Games.{coordinates, dual_of}
 use Rattle.emp_split.specs.Numbers.{holder, place_by}
-use Rattle.emp_conditions.specs.Base.{Base, range, multiplier, base_slots, index_base, same_base, range_place, multiplier_place}
+use Rattle.emp_conditions.specs.Base.{Base, range, multiplier, base_slots, index_base, range_place, multiplier_place}
 use Rattle.emp_problem.specs.declared.problem.AgentProblem.{AgentProblem}
 use Rattle.emp_problem.specs.Problem.{game}
 use Rattle.emp_kkt.specs.Items.{shape, place_of}

@@ -1,5 +1,5 @@
 -- The numbers in what is asked of a problem are the problem's.
-use Rattle.std.proofs.Common.{◌≡◌, ◌⊎◌, inl, inr, ℕ, zero, suc, ◌+◌, ◌<◌, ◌≤◌, pos, Bool, true, false, cond, ◌&&◌, List, [], ◌∷◌, ◌++◌, length, get_or, map, Option, Some, None, refl, sym, ap, ap₂, subst, ◌∙◌, arith, nat_eq, eqb, eq-eqb}
+use Rattle.std.proofs.Common.{◌≡◌, ℕ, zero, suc, ◌+◌, ◌<◌, pos, Bool, true, false, cond, ◌&&◌, List, [], ◌∷◌, ◌++◌, length, get_or, map, Option, Some, None, refl, sym, ap, ap₂, subst, ◌∙◌, arith, nat_eq, eq-eqb}
 use Rattle.std.specs.Prelude.{not}
 use Rattle.std.specs.List.{All}
 use Rattle.std.proofs.lemmas.List.{length-map}
@@ -25,7 +25,7 @@ use Rattle.emp_kkt.specs.declared.asked.Item.{Item}
 use Rattle.emp_kkt.specs.declared.asked.Item.TheVariants.{Low, High, Slope, Raised, Row, LeaderRow, Goal, Alone}
 use Rattle.emp_kkt.specs.declared.asked.Asked.{Asked}
 use Rattle.emp_kkt.specs.declared.asked.Asked.TheVariants.{ToBeZero, ToBeNonneg, Pair}
-use Rattle.emp_kkt.specs.Items.{shape, place_of, no_part, no_variable, part_at, own_at, leader_rules, range_asked, coordinate_asked, own_asked, rule_asked, one_rule_asked, rules_asked, blocks_asked, leader_range_asked, leader_own_asked, leader_rule_asked, leader_rules_asked, leader_asked, asked, items_one, items_of, items}
+use Rattle.emp_kkt.specs.Items.{shape, place_of, no_part, no_variable, part_at, own_at, leader_rules, range_asked, coordinate_asked, own_asked, rule_asked, one_rule_asked, rules_asked, blocks_asked, leader_range_asked, leader_own_asked, leader_rule_asked, leader_rules_asked, leader_asked, asked, items_of, items}
 use Rattle.emp_kkt.specs.Gives.{HasFunctions, LeaderFits, IsFit}
 use Rattle.emp_kkt.specs.Making.{own_places, PurposeFits, SlopeFits, ItemFits}
 use Rattle.emp_kkt.proofs.Meeting.{own_place}

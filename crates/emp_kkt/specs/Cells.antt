@@ -1,5 +1,5 @@
 -- The coefficients of what is asked, as fractions in lowest terms, and where a number that is formed for one is wide.
-use Rattle.std.specs.Prelude.{◌≡◌, ◌⊎◌, ℕ, ◌<◌, ℤ, ◌*ℤ◌, ◌-ℤ◌, Bool, true, false, cond, nat_eq, nat_lt, List, [], ◌∷◌, length, slice_index_or, Result, Ok, Err}
+use Rattle.std.specs.Prelude.{◌≡◌, ◌⊎◌, ℕ, ◌<◌, ◌*ℤ◌, ◌-ℤ◌, Bool, true, false, cond, nat_eq, nat_lt, List, [], ◌∷◌, length, slice_index_or, Result, Ok, Err}
 use Rattle.emp_num.specs.FracSpec.{IsQuotient, SubtractsNarrow, SubtractsWide, MultipliesNarrow, MultipliesWide}
 use Rattle.emp_num.specs.Whole.{whole}
 use Rattle.emp_num.specs.Opposite.{opposite}

@@ -1,7 +1,6 @@
 -- What is asked of a problem, item by item: the conditions of its game, each row by what it is of the problem.
-use Rattle.std.specs.Prelude.{ℕ, ◌+◌, ◌<◌, ℤ, pos, Bool, true, false, cond, nat_eq, List, [], ◌∷◌, ◌++◌, map, length, All, slice_index_or, Option, Some, None, refl}
+use Rattle.std.specs.Prelude.{ℕ, ◌+◌, pos, true, false, cond, nat_eq, List, [], ◌∷◌, ◌++◌, length, slice_index_or, Option, Some, None, refl}
 use Rattle.emp_num.specs.Whole.{whole}
-use Rattle.emp_num.specs.declared.frac.Frac.{Frac}
 use Rattle.emp_ast.specs.declared.tree.VarId.{VarId}
 use Rattle.emp_ast.specs.declared.model.Relation.{Relation}
 use Rattle.emp_ast.specs.declared.model.Relation.TheVariants.{Equal, AtLeast, AtMost, Nothing}
@@ -25,7 +24,7 @@ use Rattle.emp_problem.specs.Problem.{left_of, game}
 use Rattle.emp_kkt.specs.declared.extras.Extra.{Extra}
 use Rattle.emp_kkt.specs.declared.extras.Extra.TheVariants.{Range, Multiplier}
 use Rattle.emp_kkt.specs.declared.asked.Item.{Item}
-use Rattle.emp_kkt.specs.declared.asked.Item.TheVariants.{Low, High, Slope, Raised, Row, LeaderRow, Goal, Alone}
+use Rattle.emp_kkt.specs.declared.asked.Item.TheVariants.{Low, High, Slope, Raised, Row, LeaderRow, Alone}
 use Rattle.emp_kkt.specs.declared.asked.Asked.{Asked}
 use Rattle.emp_kkt.specs.declared.asked.Asked.TheVariants.{ToBeZero, ToBeNonneg, Pair}
 

@@ -1,16 +1,14 @@
 -- Row systems as they are made, step by step. This serves proofs; no meaning cites it.
-use Rattle.std.specs.Prelude.{◌≡◌, ℕ, ◌+◌, ◌<◌, ◌≤◌, ℤ, pos, Bool, List, [], map, length, Option, Some, None, Result, Ok, Err}
+use Rattle.std.specs.Prelude.{◌≡◌, ℕ, ◌+◌, ◌<◌, ◌≤◌, pos, List, map, length, Option, Some, None, Result, Ok, Err}
 use Rattle.emp_num.specs.declared.frac.Frac.{Frac}
 use Rattle.emp_ast.specs.declared.tree.VarId.{VarId}
-use Rattle.emp_ast.specs.declared.model.End.{End}
 use Rattle.emp_rows.specs.declared.affine.Affine.{Affine}
 use Rattle.emp_rows.specs.declared.primitive.RowFault.{RowFault}
 use Rattle.emp_rows.specs.declared.primitive.RowFault.TheVariants as RowWords
-use Rattle.emp_rows.specs.declared.system.RowSystem.{RowSystem}
 use Rattle.emp_rows.specs.Affine.{IsRow}
 use Rattle.std.specs.List.{All}
-use Rattle.emp_game.specs.Game.{Rule as GameRule, Player}
-use Rattle.emp_conditions.specs.Base.{two_ends, base_slots}
+use Rattle.emp_game.specs.Game.{Rule as GameRule}
+use Rattle.emp_conditions.specs.Base.{base_slots}
 use Rattle.emp_problem.specs.declared.problem.Rule.{Rule}
 use Rattle.emp_problem.specs.declared.problem.Purpose.{Purpose}
 use Rattle.emp_problem.specs.declared.problem.Purpose.TheVariants.{Goal as Aim, Flow}
@@ -22,9 +20,9 @@ use Rattle.emp_kkt.specs.declared.asked.Item.{Item}
 use Rattle.emp_kkt.specs.declared.asked.Item.TheVariants.{Low, High, Slope, Raised, Row, LeaderRow, Goal, Alone}
 use Rattle.emp_kkt.specs.declared.make.KktFault.{KktFault}
 use Rattle.emp_kkt.specs.declared.make.KktFault.TheVariants.{TooLarge, WideRow, NoMemory}
-use Rattle.emp_kkt.specs.Items.{shape, place_of, base_of, part_at, leader_rules, items}
+use Rattle.emp_kkt.specs.Items.{shape, place_of, base_of, part_at, leader_rules}
 use Rattle.emp_kkt.specs.Cells.{AreCells, HasWideCell}
-use Rattle.emp_kkt.specs.Gives.{Fits, KktGives, IsMadeOf, IsWideItem, AreMadeOf, IsGoalMade, IsFirstWide}
+use Rattle.emp_kkt.specs.Gives.{Fits, IsMadeOf, IsWideItem, AreMadeOf, IsGoalMade, IsFirstWide}
 
 -- ---- base variables
 -- the extras are those of the problem, and there are at most 256 base variables

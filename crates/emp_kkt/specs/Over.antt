@@ -1,6 +1,6 @@
 -- The row system of a game whose numbers are those of a problem times n. The number of a range is not times n in the system,
 -- so that its rows are those of the problem: a point of the system is one of the game once these numbers are taken times n.
-use Rattle.std.specs.Prelude.{◌≡◌, ℕ, ◌+◌, ℤ, pos, ◌*ℤ◌, ◌<ℤ◌, List, [], ◌∷◌, ◌++◌, length, take, drop, Option, Some, None}
+use Rattle.std.specs.Prelude.{◌≡◌, ◌+◌, ℤ, pos, ◌*ℤ◌, ◌<ℤ◌, List, [], ◌∷◌, ◌++◌, length, take, drop, Option, Some, None}
 use Rattle.emp_algebra.specs.Deciding.{value_times}
 use Rattle.emp_rows.specs.declared.affine.Affine.{Affine}
 use Rattle.emp_rows.specs.declared.system.RowSystem.{RowSystem}

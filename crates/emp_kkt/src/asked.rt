@@ -75,20 +75,12 @@ fn put_between(
         Item::Raised(own.block, own.own, own.base),
         Item::Low(own.place, low),
     ))?;
-    out.push(Asked::Pair(
-        Item::Alone(own.base, false),
-        Item::High(own.place, high),
-    ))?;
+    out.push(Asked::Pair(Item::Alone(own.base, false), Item::High(own.place, high)))?;
     Ok(())
 }
 
 /// Puts what is asked of an own variable with these bounds at the end.
-fn put_range(
-    out: &mut Seq<Asked>,
-    low: End,
-    high: End,
-    own: Coordinate,
-) -> Result<(), AllocError>
+fn put_range(out: &mut Seq<Asked>, low: End, high: End, own: Coordinate) -> Result<(), AllocError>
     ensures { OnOk result (out.new ≡ out.old ++ range_asked low high own.place own.block own.own own.base) }
 {
     let slope = Item::Slope(own.block, own.own, false);
@@ -413,7 +405,9 @@ fn put_pair(pairing: &mut Pairing, one: Asked) -> Result<(), AllocError>
         Asked::ToBeZero(_) => pairing.before += 1,
         Asked::ToBeNonneg(_) => pairing.before += 1,
         Asked::Pair(_, _) => {
-            pairing.pairs.push((pairing.before + 2, pairing.before + 1))?;
+            pairing
+                .pairs
+                .push((pairing.before + 2, pairing.before + 1))?;
             pairing.before += 2;
         }
     }

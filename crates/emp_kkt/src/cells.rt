@@ -90,21 +90,13 @@ fn purpose_cell(purpose: &Purpose, own: usize, by: u32, at: u32) -> Result<Frac,
     match purpose {
         Purpose::Goal(quad) => partial(quad, by, at),
         Purpose::Flow(functions) => {
-            Ok(linear_of(
-                functions.get(own).linear.as_slice(),
-                VarId { at },
-            ))
+            Ok(linear_of(functions.get(own).linear.as_slice(), VarId { at }))
         }
     }
 }
 
 /// The coefficient of a base variable there; 0 of those that are no variables of the file.
-fn start_cell(
-    problem: &AgentProblem,
-    part: &BlockPart,
-    own: usize,
-    at: usize,
-) -> Result<Frac, Wide>
+fn start_cell(problem: &AgentProblem, part: &BlockPart, own: usize, at: usize) -> Result<Frac, Wide>
     requires own { own < length part.now.own }
     requires purpose { PurposeFits part.now.purpose own }
     ensures { StartGives problem.now part.now own at result }
@@ -179,15 +171,7 @@ fn slope_cell(
 {
     let start = start_cell(problem, part, own, at)?;
     let by = *part.own.get(own);
-    charged(
-        problem,
-        extras,
-        block,
-        part.rules.as_slice(),
-        by,
-        at,
-        start,
-    )
+    charged(problem, extras, block, part.rules.as_slice(), by, at, start)
 }
 
 /// The coefficient so, or its opposite.
@@ -203,14 +187,7 @@ fn signed_slope_cell(
     requires fits { ItemFits problem.now (ASlope block own turned) }
     ensures { CellGives problem.now (ASlope block own turned) at result }
 {
-    let cell = slope_cell(
-        problem,
-        extras,
-        block,
-        problem.blocks.get(block),
-        own,
-        at,
-    )?;
+    let cell = slope_cell(problem, extras, block, problem.blocks.get(block), own, at)?;
     Ok(signed(turned, cell))
 }
 
@@ -230,14 +207,7 @@ fn raised_cell(
     if at == base {
         Ok(one())
     } else {
-        slope_cell(
-            problem,
-            extras,
-            block,
-            problem.blocks.get(block),
-            own,
-            at,
-        )
+        slope_cell(problem, extras, block, problem.blocks.get(block), own, at)
     }
 }
 
@@ -247,10 +217,7 @@ fn row_cell(problem: &AgentProblem, row: &Lin, at: usize) -> Frac
     ensures { result ≡ lin_cell problem.now row.now at }
 {
     if at < problem.variables.len() {
-        linear_of(
-            row.linear.as_slice(),
-            problem.variables.get(at).variable,
-        )
+        linear_of(row.linear.as_slice(), problem.variables.get(at).variable)
     } else {
         zero()
     }
@@ -304,9 +271,7 @@ pub fn item_cell(
         Item::Slope(block, own, turned) => {
             signed_slope_cell(problem, extras, block, own, turned, at)
         }
-        Item::Raised(block, own, base) => {
-            raised_cell(problem, extras, block, own, base, at)
-        }
+        Item::Raised(block, own, base) => { raised_cell(problem, extras, block, own, base, at) }
         Item::Row(block, rule, turned) => {
             Ok(signed(turned, rule_cell(problem, block, rule, at)))
         }

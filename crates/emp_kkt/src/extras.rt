@@ -47,12 +47,7 @@ fn index_of(extras: &[Extra], of: Extra) -> usize
 }
 
 /// The base variable of a range, from 0.
-pub fn range_base(
-    problem: &AgentProblem,
-    extras: &[Extra],
-    block: usize,
-    place: usize,
-) -> usize
+pub fn range_base(problem: &AgentProblem, extras: &[Extra], block: usize, place: usize) -> usize
     requires layout { IsLayout problem.now extras.now }
     ensures { result ≡ range_place (shape problem.now) block place }
 {

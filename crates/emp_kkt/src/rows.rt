@@ -90,14 +90,7 @@ pub fn rows_of(
 {
     let mut out = Seq::new(alloc);
     for at in 0..items.len() {
-        let row = numbered_row(
-            alloc,
-            problem,
-            extras,
-            base,
-            items[at],
-            at as u32 + 1,
-        )?;
+        let row = numbered_row(alloc, problem, extras, base, items[at], at as u32 + 1)?;
         let Ok(()) = out.push(row) else {
             return Err(KktFault::NoMemory);
         };
@@ -119,14 +112,7 @@ pub fn objective_of(
     match &problem.leader {
         None => Ok(None),
         Some(_) => {
-            let row = numbered_row(
-                alloc,
-                problem,
-                extras,
-                base,
-                Item::Goal,
-                number,
-            )?;
+            let row = numbered_row(alloc, problem, extras, base, Item::Goal, number)?;
             Ok(Some(row))
         }
     }

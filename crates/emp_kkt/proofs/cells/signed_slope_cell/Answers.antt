@@ -1,4 +1,4 @@
-use Rattle.std.proofs.Common.{Ok, Err, sym, subst}
+use Rattle.std.proofs.Common.{Ok, Err, subst}
 use Rattle.std.proofs.lemmas.Result.{err_from_is_err_and}
 use Rattle.emp_problem.specs.declared.problem.BlockPart.{BlockPart}
 use Rattle.emp_kkt.specs.Items.{no_part}
@@ -14,7 +14,7 @@ returns-in_err-cell c =
 
 pub returns : goal.returns
 returns c = (
-    c.in_ok-cell.cell,
-    subst (λ (b : BlockPart). SlopeGives c.args.problem.now c.args.block b c.args.own c.args.at (Ok c.in_ok-cell.cell)) (same_part c.args.problem.now.blocks c.args.block c.get.result.now no_part c.requires.fits.block c.get.ensures) c.in_ok-cell.ensures,
-    c.signed.ensures,
+  c.in_ok-cell.cell,
+  subst (λ (b : BlockPart). SlopeGives c.args.problem.now c.args.block b c.args.own c.args.at (Ok c.in_ok-cell.cell)) (same_part c.args.problem.now.blocks c.args.block c.get.result.now no_part c.requires.fits.block c.get.ensures) c.in_ok-cell.ensures,
+  c.signed.ensures,
 )

@@ -1,4 +1,4 @@
-use Rattle.std.proofs.Common.{◌≡◌, ◌+◌, ◌++◌, drop, map}
+use Rattle.std.proofs.Common.{◌≡◌, ◌++◌, drop, map}
 use Rattle.emp_conditions.specs.Base.{base_slots}
 use Rattle.emp_kkt.specs.Items.{shape, base_of}
 use Rattle.emp_kkt.proofs.Placing.{rest_base}

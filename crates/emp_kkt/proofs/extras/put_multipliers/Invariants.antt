@@ -1,4 +1,4 @@
-use Rattle.std.proofs.Common.{◌≡◌, ◌+◌, ◌++◌, drop, map}
+use Rattle.std.proofs.Common.{◌≡◌, ◌++◌, drop, map}
 use Rattle.emp_kkt.specs.Items.{base_of}
 use Rattle.emp_kkt.proofs.Placing.{own_multipliers}
 use Rattle.emp_kkt.proofs.extras.put_multipliers.Given as goal

@@ -1,10 +1,8 @@
-use Rattle.std.proofs.Common.{◌≡◌, ◌+◌, ◌<◌, ◌≤◌, ◌∙◌, ap, sym, subst, length, arith, refl}
+use Rattle.std.proofs.Common.{◌≡◌, ◌+◌, ◌≤◌, ◌∙◌, ap, sym, subst, length, arith, refl}
 use Rattle.std.specs.List.{All}
 use Rattle.std.proofs.lemmas.Result.{err_from_is_err_and}
-use Rattle.emp_kkt.specs.declared.asked.Item.{Item}
-use Rattle.emp_kkt.specs.declared.asked.Asked.{Asked}
-use Rattle.emp_kkt.specs.Items.{asked, items, items_of, asked_kinds, asked_pairs}
-use Rattle.emp_kkt.specs.Making.{ItemFits, AreRows, RowsGive}
+use Rattle.emp_kkt.specs.Items.{items, items_of, asked_kinds, asked_pairs}
+use Rattle.emp_kkt.specs.Making.{ItemFits}
 use Rattle.emp_kkt.proofs.Within.{items_fit}
 use Rattle.emp_kkt.proofs.Ending.{many_items, quantities_fault, objective_fault, sound, kkt}
 use Rattle.emp_kkt.proofs.make.system_of.Goals as goal
@@ -50,5 +48,5 @@ returns c =
     let e : c.in_ok-items.items ≡ items c.args.problem.now = c.in_ok-items.ensures ∙ ap items_of c.requires.conditions in
     let l : length c.as_slice.result.now ≤ 512 = omega (arith, ap length c.as_slice.ensures) in
     kkt c.args.problem.now c.args.extras.now (c.len-2.result + length c.args.extras.now) c.as_slice.result.now c.requires.fit c.requires.layout (ap (λ n. n + length c.args.extras.now) c.len-2.ensures) (c.as_slice.ensures ∙ e) l
-    (record { base = c.len-2.result + length c.args.extras.now; quantities = c.in_ok-quantities.quantities; kinds = c.in_ok-kinds.kinds; pairs = c.in_ok-pairs.pairs; objective = c.in_ok-objective.objective; sound = c.result-1.given.0 })
+    _
     refl c.in_ok-quantities.ensures (c.in_ok-kinds.ensures ∙ ap asked_kinds c.requires.conditions) (c.in_ok-pairs.ensures ∙ ap (asked_pairs 0) c.requires.conditions) c.in_ok-objective.ensures
