@@ -1,0 +1,13 @@
+pub mod Placing
+pub mod Putting
+pub mod Turning
+pub mod Forming
+pub mod Shapes
+pub mod Meeting
+pub mod Members
+pub mod Values
+pub mod Weights
+pub mod Columns
+pub mod Within
+pub mod Overs
+pub mod Ending

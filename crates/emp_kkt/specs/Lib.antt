@@ -1,0 +1,5 @@
+pub mod Items
+pub mod Cells
+pub mod Over
+pub mod Gives
+pub mod Making
