@@ -6,8 +6,6 @@ use Rattle.emp_ast.specs.declared.tree.VarId.{VarId}
 use Rattle.emp_ast.specs.declared.tree.EquId.{EquId}
 use Rattle.emp_ast.specs.declared.model.Sense.{Sense}
 use Rattle.emp_ast.specs.declared.model.Model.{Model}
-use Rattle.emp_ast.specs.declared.annot.Block.{Block}
-use Rattle.emp_ast.specs.declared.annot.Block.TheVariants.{Agent, Vi}
 use Rattle.emp_ast.specs.declared.annot.Annot.{Annot}
 use Rattle.emp_ast.specs.Parties.{Party, leader, block, objective, is_defined, is_defined_of, some_block_defines}
 use Rattle.emp_form.specs.Calls.{Formula, Gives, Runs, HasWideCall}
@@ -40,9 +38,10 @@ TurnedGives s f v (Ok r) = TurnsFold s f r
 TurnedGives s f v (Err (Wide w)) = (w ≡ v) × HasWideCall f
 TurnedGives s f v (Err NoMemory) = Unit {0}
 
-abbrev pub solved_sense : Block → Option EquId → ℕ → Option Sense
-solved_sense (Agent sense objective vars equs) d v = cond (nat_eq objective.at v && is_some d) (Some sense) None
-solved_sense (Vi zeros pairs equs) d v = None
+-- the sense of the objective with a definition, where it is the variable
+abbrev pub sense_by : Option EquId → Option (Sense × ℕ) → ℕ → Option Sense
+sense_by d None v = None
+sense_by d (Some w) v = cond (nat_eq w.1 v && is_some d) (Some w.0) None
 
 -- a party whose objective of this sense the variable is, with a definition
 abbrev pub Solves : Model → Annot → Party → ℕ → Sense → Type 0
@@ -61,10 +60,10 @@ abbrev pub PartyFold : Model → Annot → AgentProblem → List Frac → ℕ �
 PartyFold m a pr xs v leader f = IsLeaderFold m a pr xs v f
 PartyFold m a pr xs v (block k) f = (h : IsBlockFold m a pr xs v f) × (h.number ≡ k)
 
--- the value of a variable: what its party's fold gives, or its entry
+-- the value of a variable: what the fold of the party that defines it gives, or its entry
 pub record IsValue (m : Model) (a : Annot) (pr : AgentProblem) (xs : List Frac) (v : ℕ) (r : Frac) : Type 0 where
   pub left : is_defined m a v ≡ false → r ≡ entry xs v
-  pub fold : (f : Formula) → IsFold m a pr xs v f → (k : Party) × (s : Sense) × PartyFold m a pr xs v k f × Solves m a k v s × TurnsFold s f r
+  pub fold : (k : Party) (s : Sense) (f : Formula) → Solves m a k v s → PartyFold m a pr xs v k f → TurnsFold s f r
 
 pub record IsWideAt (m : Model) (a : Annot) (pr : AgentProblem) (xs : List Frac) (v : ℕ) : Type 0 where
   pub formula : Formula

@@ -1,6 +1,6 @@
 //! The way back of a point.
-ghost use Rattle.std.specs.Prelude.{◌≡◌, ◌<◌, ◌≤◌, false, ℕ, length, IfOk};
-ghost use Rattle.emp_ast.specs.Parties.{is_defined, some_block_defines};
+ghost use Rattle.std.specs.Prelude.{◌≡◌, ◌<◌, ◌≤◌, false, ℕ, length, Some, IfOk};
+ghost use Rattle.emp_ast.specs.Parties.{block_objective, goal_objective, is_defined, some_block_defines};
 ghost use Rattle.emp_form.specs.Calls.{Formula, given};
 ghost use Rattle.emp_owner.specs.Settled.{AreDefinitions, AreOwned, IsLeaderDefinition};
 ghost use Rattle.emp_poly.specs.Written.{linear_from, entry, written_value, LinearWithin, SquareWithin, IsWithin};
@@ -9,7 +9,7 @@ ghost use Rattle.emp_problem.specs.ProblemOf.{IsProblemOf};
 ghost use Rattle.emp_problem.specs.declared.problem.Purpose.TheVariants.{Goal};
 ghost use Rattle.emp_poly.specs.declared.quad.Quad.{Quad};
 ghost use Rattle.emp_subst.specs.Fill.{spread, FillGives};
-ghost use Rattle.emp_subst.specs.Filling.{FoldGives, IsTurned, TurnedGives, solved_sense, FindsBlock, FindsLeader, ValueGives, ValuesGive};
+ghost use Rattle.emp_subst.specs.Filling.{FoldGives, IsTurned, TurnedGives, sense_by, FindsBlock, FindsLeader, ValueGives, ValuesGive};
 
 use crate::fault::FillFault;
 use crate::goals::is_max;
@@ -61,6 +61,7 @@ fn spread(
 }
 
 /// How many variables the linear terms reach.
+#[tactic(auto, using(crate::proofs::Folding::reaching))]
 fn linear_reach(terms: &[(VarId, Frac)], least: usize) -> usize
     ensures reach { LinearWithin result terms.now }
     ensures least { least ≤ result }
@@ -73,6 +74,7 @@ fn linear_reach(terms: &[(VarId, Frac)], least: usize) -> usize
 }
 
 /// How many variables the quadratic terms reach.
+#[tactic(auto, using(crate::proofs::Folding::reaching))]
 fn square_reach(terms: &[(VarId, VarId, Frac)], least: usize) -> usize
     ensures reach { SquareWithin result terms.now }
     ensures least { least ≤ result }
@@ -87,6 +89,7 @@ fn square_reach(terms: &[(VarId, VarId, Frac)], least: usize) -> usize
 }
 
 /// The values with 0 at the end, so that there are so many.
+#[tactic(auto, using(crate::proofs::Folding::entry_pad))]
 fn padded(alloc: Global, values: &[Frac], count: usize) -> Result<Seq<Frac>, NoMemory>
     ensures { IfOk result (λ list. (count ≤ length list) × ((k : ℕ) → entry list k ≡ entry values.now k)) }
 {
@@ -153,7 +156,7 @@ fn leader_value(
 
 /// Whether the objective of the block, which has a definition, is to be least or greatest: none where it is another variable.
 fn solved_sense(block: &Block, definition: Option<EquId>, v: VarId) -> Option<Sense>
-    ensures { result ≡ solved_sense block.now definition v.at }
+    ensures { result ≡ sense_by definition (block_objective (Some block.now)) v.at }
 {
     match block {
         Block::Agent {
@@ -172,6 +175,7 @@ fn solved_sense(block: &Block, definition: Option<EquId>, v: VarId) -> Option<Se
 }
 
 /// The block whose defined objective the variable is, and whether it is to be least or greatest.
+#[tactic(auto, using(crate::proofs::Defined::solving))]
 fn block_of(
     model: &Model,
     annot: &Annot,
@@ -189,7 +193,25 @@ fn block_of(
     None
 }
 
+/// Whether the objective of the solve statement, which has a definition, is to be least or greatest: none where it is another
+/// variable.
+fn goal_sense(goal: Option<(Sense, VarId)>, definition: Option<EquId>, v: VarId) -> Option<Sense>
+    ensures { result ≡ sense_by definition (goal_objective goal) v.at }
+{
+    match goal {
+        Some((sense, w)) => {
+            if w.at == v.at && is_some(definition) {
+                Some(sense)
+            } else {
+                None
+            }
+        }
+        None => None,
+    }
+}
+
 /// The sense of the leader's objective, where it is this variable and has a definition in a bilevel file.
+#[tactic(auto, using(crate::proofs::Senses::sensing))]
 fn leader_of(
     model: &Model,
     annot: &Annot,
@@ -199,15 +221,10 @@ fn leader_of(
     requires definition { IsLeaderDefinition model.now annot.now annot.now.bilevel definition }
     ensures { FindsLeader model.now annot.now v.at result }
 {
-    match model.goal {
-        Some((sense, w)) => {
-            if annot.bilevel && w.at == v.at && is_some(definition) {
-                Some(sense)
-            } else {
-                None
-            }
-        }
-        None => None,
+    if annot.bilevel {
+        goal_sense(model.goal, definition, v)
+    } else {
+        None
     }
 }
 
@@ -226,10 +243,14 @@ fn leader_or_left(
     requires none { some_block_defines model.now annot.now v.at (length annot.now.blocks) ≡ false }
     ensures { ValueGives model.now annot.now problem.now values.now v result }
 {
-    match (leader_of(model, annot, owned.leader, v), &problem.leader) {
-        (Some(sense), Some(part)) => leader_value(alloc, sense, part, values, v),
-        _ => Ok(entry(values, v.at as usize)),
-    }
+    let left = entry(values, v.at as usize);
+    let Some(sense) = leader_of(model, annot, owned.leader, v) else {
+        return Ok(left);
+    };
+    let Some(part) = &problem.leader else {
+        return Ok(left);
+    };
+    leader_value(alloc, sense, part, values, v)
 }
 
 /// The value of a variable: by its polynomial where it is a defined objective.

@@ -1,10 +1,10 @@
 //! The variables that are left, and the own variables among them.
 ghost use Rattle.std.specs.Prelude.{◌≡◌, ◌<◌, ◌++◌, ◌&&◌, not, map, filter, length, OnOk, IfOk};
-ghost use Rattle.emp_ast.specs.Parties.{leader, is_goal, owns, block_variables, some_block_defines, is_defined, is_defined_of};
+ghost use Rattle.emp_ast.specs.Parties.{leader, goal_objective, is_goal, owns, block_variables, some_block_defines, is_defined, is_defined_of};
 ghost use Rattle.emp_owner.specs.Settled.{AreDefinitions, IsLeaderDefinition, AreOwned};
 ghost use Rattle.emp_problem.specs.Left.{left, leader_own};
 ghost use Rattle.emp_problem.specs.ProblemOf.{left_variable};
-ghost use Rattle.emp_subst.specs.Stages.{is_some, is_solved};
+ghost use Rattle.emp_subst.specs.Stages.{is_some, is_solved_by, is_solved};
 
 use emp_ast::annot::{Annot, Block};
 use emp_ast::model::{Model, Sense};
@@ -37,18 +37,27 @@ pub fn is_solved(block: &Block, definition: Option<EquId>, v: VarId) -> bool
     }
 }
 
-/// Whether the variable is the defined objective of the leader of a bilevel file.
-pub fn leader_solved(model: &Model, annot: &Annot, definition: Option<EquId>, v: VarId) -> bool
-    requires definition { IsLeaderDefinition model.now annot.now annot.now.bilevel definition }
-    ensures { result ≡ (annot.now.bilevel && is_defined_of model.now annot.now leader v.at) }
+/// Whether the variable is the objective of the solve statement, which has a definition.
+fn goal_solved(goal: Option<(Sense, VarId)>, definition: Option<EquId>, v: VarId) -> bool
+    ensures { result ≡ is_solved_by definition (goal_objective goal) v.at }
 {
-    match model.goal {
-        Some((_, w)) => annot.bilevel && w.at == v.at && is_some(definition),
+    match goal {
+        Some((_, w)) => w.at == v.at && is_some(definition),
         None => false,
     }
 }
 
+/// Whether the variable is the defined objective of the leader of a bilevel file.
+#[tactic(auto, using(crate::proofs::Defined::leader_defined))]
+fn leader_solved(model: &Model, annot: &Annot, definition: Option<EquId>, v: VarId) -> bool
+    requires definition { IsLeaderDefinition model.now annot.now annot.now.bilevel definition }
+    ensures { result ≡ (annot.now.bilevel && is_defined_of model.now annot.now leader v.at) }
+{
+    annot.bilevel && goal_solved(model.goal, definition, v)
+}
+
 /// Whether the variable is the defined objective of a block.
+#[tactic(auto, using(crate::proofs::Defined::solving))]
 fn some_solved(model: &Model, annot: &Annot, defined: &Seq<Option<EquId>>, v: VarId) -> bool
     requires defined { AreDefinitions model.now annot.now defined.now }
     ensures { result ≡ some_block_defines model.now annot.now v.at (length annot.now.blocks) }
@@ -70,6 +79,7 @@ pub fn is_defined(model: &Model, annot: &Annot, owned: &Owned, v: VarId) -> bool
 }
 
 /// The variables that are left, in order of declaration.
+#[tactic(auto, using(crate::proofs::LeftLists::lefts))]
 pub fn left_variables(
     alloc: Global,
     model: &Model,
@@ -96,6 +106,7 @@ pub fn left_variables(
 }
 
 /// Puts the variables at the end.
+#[tactic(auto, using(crate::proofs::Putting::putting))]
 fn put_variables(list: &mut Seq<VarId>, vars: &Seq<VarId>) -> Result<(), AllocError>
     ensures { OnOk result (list.new ≡ list.old ++ vars.now) }
 {
@@ -106,6 +117,7 @@ fn put_variables(list: &mut Seq<VarId>, vars: &Seq<VarId>) -> Result<(), AllocEr
 }
 
 /// Puts the variables of the pairs at the end.
+#[tactic(auto, using(crate::proofs::Putting::putting))]
 fn put_paired(list: &mut Seq<VarId>, pairs: &Seq<(EquId, VarId)>) -> Result<(), AllocError>
     ensures { OnOk result (list.new ≡ list.old ++ map (λ q. q.1) pairs.now) }
 {
@@ -137,6 +149,26 @@ fn variables_of(alloc: Global, block: &Block) -> Result<Seq<VarId>, NoMemory>
     Ok(list)
 }
 
+/// Those of the variables that are not the defined objective of the block, in their order.
+#[tactic(auto, using(crate::proofs::Putting::putting))]
+fn left_of(
+    alloc: Global,
+    block: &Block,
+    definition: Option<EquId>,
+    variables: &Seq<VarId>,
+) -> Result<Seq<VarId>, NoMemory>
+    ensures { IfOk result (λ list. list ≡ filter (λ v. not (is_solved block.now definition v.at)) variables.now) }
+{
+    let mut list = Seq::new(alloc);
+    for at in 0..variables.len() {
+        let v = *variables.get(at);
+        if !is_solved(block, definition, v) {
+            list.push(v)?;
+        }
+    }
+    Ok(list)
+}
+
 /// The own variables of the block that are left, in its order.
 pub fn own_of(
     alloc: Global,
@@ -146,14 +178,7 @@ pub fn own_of(
     ensures { IfOk result (λ list. list ≡ filter (λ v. not (is_solved block.now definition v.at)) (block_variables block.now)) }
 {
     let variables = variables_of(alloc, block)?;
-    let mut list = Seq::new(alloc);
-    for at in 0..variables.len() {
-        let v = *variables.get(at);
-        if !is_solved(block, definition, v) {
-            list.push(v)?;
-        }
-    }
-    Ok(list)
+    left_of(alloc, block, definition, &variables)
 }
 
 /// Whether the variable is the objective of the solve statement.
@@ -176,6 +201,7 @@ fn leader_owns(model: &Model, annot: &Annot, v: VarId) -> bool
 }
 
 /// The leader's variables that are left, in order of declaration.
+#[tactic(auto, using(crate::proofs::Putting::putting))]
 pub fn leader_own(
     alloc: Global,
     model: &Model,

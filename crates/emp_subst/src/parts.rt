@@ -25,6 +25,7 @@ use emp_problem::problem::{BlockPart, LeaderPart, LeftVariable, Purpose, Rule};
 use std::alloc::{AllocError, Global};
 
 /// Puts the function 0 of each variable at the end.
+#[tactic(auto, using(crate::proofs::Flows::flowing))]
 fn put_zeros(alloc: Global, list: &mut Seq<Lin>, zeros: &Seq<VarId>) -> Result<(), AllocError>
     ensures { OnOk result ((m : Model) (gs : List (Option ℕ)) → AreFlowsFor m gs list.old → AreFlowsFor m (gs ++ map (λ z. None) zeros.now) list.new) }
 {
@@ -35,6 +36,7 @@ fn put_zeros(alloc: Global, list: &mut Seq<Lin>, zeros: &Seq<VarId>) -> Result<(
 }
 
 /// Puts the function of each pair at the end.
+#[tactic(auto, using(crate::proofs::Flows::flowing))]
 fn put_flows(
     alloc: Global,
     list: &mut Seq<Lin>,

@@ -20,6 +20,7 @@ use emp_owner::tied::tied_variables;
 use emp_poly::quad::Quad;
 
 /// Whether the equation is a constraint of some block, by the definitions of the blocks.
+#[tactic(auto, using(crate::proofs::Defined::constraining))]
 fn some_constrains(model: &Model, annot: &Annot, defined: &Seq<Option<EquId>>, e: EquId) -> bool
     requires defined { AreDefinitions model.now annot.now defined.now }
     ensures { result ≡ some_block_constrains model.now annot.now e.at (length annot.now.blocks) }

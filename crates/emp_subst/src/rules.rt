@@ -42,6 +42,7 @@ pub fn leader_constrains(
 }
 
 /// The leader's constraints, in order of declaration.
+#[tactic(auto, using(crate::proofs::Constraints::leading))]
 pub fn leader_constraints(
     alloc: Global,
     model: &Model,
@@ -63,6 +64,7 @@ pub fn leader_constraints(
 }
 
 /// Puts the functions of the pairs at the end.
+#[tactic(auto, using(crate::proofs::Putting::putting))]
 fn put_functions(
     list: &mut Seq<EquId>,
     pairs: &Seq<(EquId, VarId)>,
@@ -76,6 +78,7 @@ fn put_functions(
 }
 
 /// Puts the equations at the end.
+#[tactic(auto, using(crate::proofs::Putting::putting))]
 fn put_equations(list: &mut Seq<EquId>, equs: &Seq<EquId>) -> Result<(), AllocError>
     ensures { OnOk result (list.new ≡ list.old ++ equs.now) }
 {
@@ -99,6 +102,7 @@ fn put_listed(list: &mut Seq<EquId>, block: &Block) -> Result<(), AllocError>
 }
 
 /// Puts the equations of the implicit variables that the block owns at the end.
+#[tactic(auto, using(crate::proofs::Putting::putting))]
 fn put_tied(list: &mut Seq<EquId>, annot: &Annot, block: &Block) -> Result<(), AllocError>
     ensures { OnOk result (list.new ≡ list.old ++ map (λ i. i.1) (filter (λ i. names_variable (block_variables block.now) i.0.at) annot.now.implicits)) }
 {
@@ -128,16 +132,16 @@ fn is_rest(block: &Block, definition: Option<EquId>, e: EquId) -> bool
     !is_entry(definition, e) && !has_function(block, e)
 }
 
-/// The block's constraints, in its order, by the equation that defines its objective.
-pub fn block_constraints(
+/// Those of the equations that are neither the definition nor the function of a pair of the block, in their order.
+#[tactic(auto, using(crate::proofs::Putting::putting))]
+fn rest_of(
     alloc: Global,
-    annot: &Annot,
     block: &Block,
     definition: Option<EquId>,
+    equations: &Seq<EquId>,
 ) -> Result<Seq<EquId>, NoMemory>
-    ensures { IfOk result (λ list. list ≡ filter (λ e. is_rest block.now definition e.at) (block_equations annot.now block.now)) }
+    ensures { IfOk result (λ list. list ≡ filter (λ e. is_rest block.now definition e.at) equations.now) }
 {
-    let equations = equations_of(alloc, annot, block)?;
     let mut list = Seq::new(alloc);
     for at in 0..equations.len() {
         let e = *equations.get(at);
@@ -148,7 +152,21 @@ pub fn block_constraints(
     Ok(list)
 }
 
+/// The block's constraints, in its order, by the equation that defines its objective.
+pub fn block_constraints(
+    alloc: Global,
+    annot: &Annot,
+    block: &Block,
+    definition: Option<EquId>,
+) -> Result<Seq<EquId>, NoMemory>
+    ensures { IfOk result (λ list. list ≡ filter (λ e. is_rest block.now definition e.at) (block_equations annot.now block.now)) }
+{
+    let equations = equations_of(alloc, annot, block)?;
+    rest_of(alloc, block, definition, &equations)
+}
+
 /// The constraint of an equation.
+#[tactic(auto, using(crate::proofs::Constraints::is_rule))]
 fn rule_of(
     alloc: Global,
     model: &Model,
@@ -168,6 +186,7 @@ fn rule_of(
 }
 
 /// The constraints of these equations, in their order.
+#[tactic(auto, using(crate::proofs::Constraints::ruling))]
 pub fn rules_of(
     alloc: Global,
     model: &Model,

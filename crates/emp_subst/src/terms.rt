@@ -23,6 +23,7 @@ fn signed(value: Frac, negate: bool) -> Frac
 }
 
 /// The linear terms, or their opposites.
+#[tactic(auto, using(crate::proofs::Signs::timing))]
 fn signed_linear(
     alloc: Global,
     terms: &[(VarId, Frac)],
@@ -39,6 +40,7 @@ fn signed_linear(
 }
 
 /// The quadratic terms, or their opposites.
+#[tactic(auto, using(crate::proofs::Signs::timing))]
 fn signed_square(
     alloc: Global,
     terms: &[(VarId, VarId, Frac)],
@@ -70,6 +72,7 @@ fn quad_of(constant: Frac, linear: Seq<(VarId, Frac)>, square: Seq<(VarId, VarId
 }
 
 /// The polynomial, or its opposite.
+#[tactic(auto, using(crate::proofs::Signs::scaling))]
 pub fn times(alloc: Global, quad: &Quad, negate: bool) -> Result<Quad, NoMemory>
     ensures { IfOk result (λ q. IsTimes (sign_of negate) quad.now q) }
 {
@@ -79,6 +82,7 @@ pub fn times(alloc: Global, quad: &Quad, negate: bool) -> Result<Quad, NoMemory>
 }
 
 /// The linear terms without that of the variable.
+#[tactic(auto, using(crate::proofs::Putting::putting))]
 fn terms_without(
     alloc: Global,
     terms: &[(VarId, Frac)],
@@ -97,6 +101,7 @@ fn terms_without(
 }
 
 /// The polynomial without the linear term of the variable.
+#[tactic(auto, using(crate::proofs::Signs::leaving))]
 pub fn without(alloc: Global, quad: &Quad, w: VarId) -> Result<Quad, NoMemory>
     ensures { IfOk result (λ q. IsWithout w.at quad.now q) }
 {
