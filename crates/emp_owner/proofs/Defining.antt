@@ -99,7 +99,7 @@ definition_at m a k b (Some e) at h = block_defines_is m a k b e.at at ∙ h
 definition_at m a k b None at h = λ e. block_defines_is m a k b e at ∙ h e
 
 -- ---- the definition of the leader
-from_number : (e n : ℕ) (qs : List Equation) → names_equation (all_equations n qs) e ≡ true → e < n + length qs
+pub from_number : (e n : ℕ) (qs : List Equation) → names_equation (all_equations n qs) e ≡ true → e < n + length qs
 from_number e n [] h = absurd (false≢true h)
 from_number e n (q ∷ qs) h = go (cases_eq n e) h (from_number e (n + 1) qs)
   where
@@ -107,7 +107,7 @@ from_number e n (q ∷ qs) h = go (cases_eq n e) h (from_number e (n + 1) qs)
     go (inl same) k rest = omega arith
     go (inr other) k rest = let l = rest (subst (λ x. (x || names_equation (all_equations (n + 1) qs) e) ≡ true) (ne_eqb n e other) k) in omega arith
 
-number_there : (e n : ℕ) (qs : List Equation) → n ≤ e → e < n + length qs → names_equation (all_equations n qs) e ≡ true
+pub number_there : (e n : ℕ) (qs : List Equation) → n ≤ e → e < n + length qs → names_equation (all_equations n qs) e ≡ true
 number_there e n [] l h = absurd (omega arith)
 number_there e n (q ∷ qs) l h = go (cases_eq n e) (number_there e (n + 1) qs)
   where
@@ -116,7 +116,7 @@ number_there e n (q ∷ qs) l h = go (cases_eq n e) (number_there e (n + 1) qs)
     go (inr other) rest = ap (λ x. x || names_equation (all_equations (n + 1) qs) e) (ne_eqb n e other) ∙ rest (omega arith) (omega arith)
 
 -- what names e among those that pass a test of the number
-named_passing : (e : ℕ) (test : ℕ → Bool) (es : List EquId) → names_equation (filter (λ x. test x.at) es) e ≡ (names_equation es e && test e)
+pub named_passing : (e : ℕ) (test : ℕ → Bool) (es : List EquId) → names_equation (filter (λ x. test x.at) es) e ≡ (names_equation es e && test e)
 named_passing e test [] = refl
 named_passing e test (x ∷ es) = any_filter (λ y. nat_eq y.at e) (λ y. test y.at) (x ∷ es) ∙ both (x ∷ es)
   where
@@ -138,7 +138,7 @@ named_passing e test (x ∷ es) = any_filter (λ y. nat_eq y.at e) (λ y. test y
     both [] = refl
     both (y ∷ ys) = ap₂ (λ b c. b || c) (same y.at) (both ys) ∙ apart (nat_eq y.at e) (names_equation ys e) (test e)
 
-leader_named : (m : Model) (a : Annot) (e : ℕ) → names_equation (equations m a leader) e ≡ (names_equation (all_equations 0 m.equations) e && not (some_block_has a e))
+pub leader_named : (m : Model) (a : Annot) (e : ℕ) → names_equation (equations m a leader) e ≡ (names_equation (all_equations 0 m.equations) e && not (some_block_has a e))
 leader_named m a e = named_passing e (λ n. not (some_block_has a n)) (all_equations 0 m.equations)
 
 pub leader_found : (m : Model) (a : Annot) (g : Sense × VarId) (o : Option EquId) → m.goal ≡ Some g → may_be_defined m a g.1.at ≡ true → FindsLeft m a g.1.at o → IsDefinition m a leader o
@@ -173,14 +173,14 @@ one_tie w [] e h = absurd (false≢true h)
 one_tie w (q ∷ qs) zero h = let l = tie_leaves w q h in omega arith
 one_tie w (q ∷ qs) (suc e) h = let l = one_tie w qs e h in omega arith
 
-two_ties : (w : ℕ) (qs : List Equation) (d e : ℕ) → d ≢ e → ties w (slice_get qs d) ≡ true → ties w (slice_get qs e) ≡ true → 2 ≤ occurrences w qs
+pub two_ties : (w : ℕ) (qs : List Equation) (d e : ℕ) → d ≢ e → ties w (slice_get qs d) ≡ true → ties w (slice_get qs e) ≡ true → 2 ≤ occurrences w qs
 two_ties w [] d e n h k = absurd (false≢true h)
 two_ties w (q ∷ qs) zero zero n h k = absurd (n refl)
 two_ties w (q ∷ qs) zero (suc e) n h k = let l = tie_leaves w q h in let j = one_tie w qs e k in omega arith
 two_ties w (q ∷ qs) (suc d) zero n h k = let l = tie_leaves w q k in let j = one_tie w qs d h in omega arith
 two_ties w (q ∷ qs) (suc d) (suc e) n h k = let l = two_ties w qs d e (λ s. n (ap suc s)) h k in omega arith
 
-can_tie : (m : Model) (a : Annot) (e w : ℕ) → can_define m a e w ≡ true → (occurrences w m.equations ≡ 1) × (ties w (slice_get m.equations e) ≡ true)
+pub can_tie : (m : Model) (a : Annot) (e w : ℕ) → can_define m a e w ≡ true → (occurrences w m.equations ≡ 1) × (ties w (slice_get m.equations e) ≡ true)
 can_tie m a e w h =
     let both = and_parts (may_be_defined m a w) (may_define m a w e) (sym (can_by_may m a e w) ∙ h) in
     let one = and_parts (has_no_bound (slice_get m.variables w) && not (is_dual a w)) (nat_eq (occurrences w m.equations) 1) both.0 in

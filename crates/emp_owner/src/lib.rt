@@ -4,14 +4,14 @@
 //! or equation, and what the answer means in `specs/Settled.antt`.
 #![tactic(auto)]
 
-mod blocks;
-mod constraints;
+pub mod blocks;
+pub mod constraints;
 mod definitions;
 mod leaves;
-mod listed;
+pub mod listed;
 pub mod owned;
 mod owners;
 mod rules;
 mod search;
 pub mod settle;
-mod tied;
+pub mod tied;

@@ -1,0 +1,15 @@
+pub mod Putting
+pub mod Defined
+pub mod Senses
+pub mod Expanding
+pub mod Signs
+pub mod Givens
+pub mod Constraints
+pub mod LeftLists
+pub mod Flows
+pub mod Folding
+pub mod Spreading
+pub mod Owners
+pub mod BlockLists
+pub mod Turning
+pub mod Made

@@ -1,0 +1,4 @@
+pub mod Subst
+pub mod Fill
+pub mod Stages
+pub mod Filling
