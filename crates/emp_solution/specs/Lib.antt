@@ -1,3 +1,3 @@
-pub mod Pending
 pub mod Stated
 pub mod Tells
+pub mod Laws

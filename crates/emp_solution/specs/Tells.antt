@@ -9,11 +9,8 @@ use Rattle.emp_ast.specs.Equilibrium.{IsEquilibrium}
 use Rattle.emp_ast.specs.Bilevel.{IsBest, IsRay}
 use Rattle.emp_cert.specs.declared.cert.Verdict.{Verdict}
 use Rattle.emp_cert.specs.declared.cert.Verdict.TheVariants.{Point as PointVerdict, Missing, Best, Unbounded}
-use Rattle.emp_cert.specs.Verdicts.{VerdictShown}
 use Rattle.emp_problem.specs.Class.{SolvesFile}
 use Rattle.emp_verdict.specs.Laws.{IsFileOf, HasCoordinates}
-use Rattle.emp_solution.specs.declared.state.Stated.{Stated}
-use Rattle.emp_solution.specs.Stated.{IsStated}
 
 -- of each file's point of the row point that the verdict names, and of each step: an equilibrium; none solves the file; a best point; a
 -- ray
@@ -22,7 +19,3 @@ VerdictTells m a (PointVerdict fs) = (q p : Point) → StandsFor fs q → IsFile
 VerdictTells m a (Missing t) = (p : Point) → SolvesFile m a p → ⊥
 VerdictTells m a (Best fs t) = (q p : Point) → StandsFor fs q → IsFileOf m a q p → IsBest m a p
 VerdictTells m a (Unbounded fs gs) = (q d p v : Point) → StandsFor fs q → StandsFor gs d → IsFileOf m a q p → Fits m v → HasCoordinates m a v d → IsRay m a p v
-
--- a verdict that is shown of the row system of a file tells this of the file
-abbrev pub StatedTells : Type 0
-StatedTells = (m : Model) (a : Annot) (s : Stated) (v : Verdict) → IsStated m a s → VerdictShown s.system v → VerdictTells m a v

@@ -1,8 +1,8 @@
 //! From a file to its rows, and from what is found of the rows back to the file.
 //!
-//! `state` makes the row system of a file; `fill` carries a row point back to the file's own variables. What a verdict on the rows
-//! says of the file stands in `specs/Tells.antt`.
+//! `state` makes the row system of a file. What a verdict on the rows says of the file stands in `specs/Tells.antt`, and the laws in
+//! `specs/Laws.antt`.
 #![tactic(auto)]
 
-pub mod fill;
+pub mod laws;
 pub mod state;

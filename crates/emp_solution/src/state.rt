@@ -10,7 +10,10 @@ use emp_ast::tree::{EquId, VarId};
 use emp_owner::owned::Owned;
 use emp_poly::tree::PolyFault;
 use emp_problem::problem::AgentProblem;
+use emp_kkt::make::KktFault;
 use emp_rows::system::RowSystem;
+use emp_share::share::{ShareFault, convex_agents};
+use emp_subst::fault::SubstFault;
 use std::alloc::Global;
 
 /// Why a file has no row system. Each cause stands in `specs/Stated.antt`.
@@ -40,17 +43,75 @@ pub struct Stated {
     pub system: RowSystem,
 }
 
+/// A fault of the problem as one of the file.
+fn of_subst(fault: SubstFault) -> StateFault {
+    match fault {
+        SubstFault::Poly(fault) => StateFault::Poly(fault),
+        SubstFault::Quadratic(equation, first, second) => {
+            StateFault::Quadratic(equation, first, second)
+        }
+        SubstFault::LeaderNotLinear(first, second) => StateFault::LeaderNotLinear(first, second),
+        SubstFault::NoMemory => StateFault::NoMemory,
+    }
+}
+
+/// A fault of an agent as one of the file.
+fn of_share(fault: ShareFault) -> StateFault {
+    match fault {
+        ShareFault::NotConvex(block, k) => StateFault::NotConvex(block, k),
+        ShareFault::WideCurve(block, k) => StateFault::WideCurve(block, k),
+        ShareFault::NoMemory => StateFault::NoMemory,
+    }
+}
+
+/// A fault of the rows as one of the file.
+fn of_kkt(fault: KktFault) -> StateFault {
+    match fault {
+        KktFault::TooLarge => StateFault::TooLarge,
+        KktFault::WideRow(row) => StateFault::WideRow(row),
+        KktFault::NoMemory => StateFault::NoMemory,
+    }
+}
+
+/// The row system of a problem whose agents are convex.
+fn with_rows(alloc: Global, problem: AgentProblem) -> Result<Stated, StateFault>
+{
+    match emp_kkt::make::make(alloc, &problem) {
+        Ok(system) => Ok(Stated { problem, system }),
+        Err(fault) => Err(of_kkt(fault)),
+    }
+}
+
+/// The row system of a problem, once its agents are tested.
+fn tested(alloc: Global, problem: AgentProblem) -> Result<Stated, StateFault>
+{
+    match convex_agents(alloc, &problem) {
+        Ok(()) => with_rows(alloc, problem),
+        Err(fault) => Err(of_share(fault)),
+    }
+}
+
 /// The problem of a file that breaks no rule of ownership, and its row system.
-pub fn state(alloc: Global, model: &Model, annot: &Annot, owned: &Owned) -> Result<Stated, StateFault>
+///
+/// The faults come in the order of the expansion of all equations, the test of constraints, functions and the leader's objective,
+/// the test of the agents, and the rows.
+pub fn state(
+    alloc: Global,
+    model: &Model,
+    annot: &Annot,
+    owned: &Owned,
+) -> Result<Stated, StateFault>
     requires kept { IsKept model.now annot.now }
     requires owned { AreOwned model.now annot.now owned.now }
     requires fits { AnnotFits model.now annot.now }
     requires goal { GoalFits model.now }
     requires variables { length model.now.variables < 4294967296 }
     requires equations { length model.now.equations < 4294967296 }
-    requires blocks { length annot.now.blocks < 4294967296 }
     ensures gives { StateGives model.now annot.now result }
     ensures base { IfOk result (λ s. length s.problem.variables ≤ s.system.base) }
 {
-    Err(StateFault::NoMemory)
+    match emp_subst::make::make(alloc, model, annot, owned) {
+        Ok(problem) => tested(alloc, problem),
+        Err(fault) => Err(of_subst(fault)),
+    }
 }
