@@ -1,5 +1,5 @@
 -- What an answer over texts comes to.
-use Rattle.std.proofs.Common.{◌≡◌, ◌≢◌, ℕ, ◌<◌, ◌≤◌, true, false, List, [], ◌∷◌, length, Result, Ok, Err, IfOk, arith, subst, sym}
+use Rattle.std.proofs.Common.{◌≡◌, ◌≢◌, ℕ, ◌<◌, ◌≤◌, true, false, List, [], ◌∷◌, length, Option, Some, Result, Ok, Err, IfOk, arith, subst, sym}
 use Rattle.emp_list.specs.declared.memory.NoMemory.{NoMemory}
 use Rattle.emp_ast.specs.declared.model.Model.{Model}
 use Rattle.emp_ast.specs.declared.annot.Annot.{Annot}
@@ -58,6 +58,9 @@ module _ (x : Result Answer NoMemory) (m : Model) (a : Annot) (r : Asked) (rest 
 
   pub check_does : (ct : List ℕ) → r.verb ≡ Check → rest ≡ ct ∷ [] → IfOk x (λ s. Checks m a ct (outcome_of s)) → IfOk x DoesIt
   check_does ct v e p = ok_map x (λ s. Checks m a ct (outcome_of s)) DoesIt (λ s h. subst (λ ts. Does m a r ts (outcome_of s)) (sym e) (checks ct (outcome_of s) v h)) p
+
+  pub migrate_does : (ct name : List ℕ) → r.verb ≡ Migrate → r.output ≡ Some name → rest ≡ ct ∷ [] → IfOk x (λ s. Migrates m a ct name (outcome_of s)) → IfOk x DoesIt
+  migrate_does ct name v n e p = ok_map x (λ s. Migrates m a ct name (outcome_of s)) DoesIt (λ s h. subst (λ ts. Does m a r ts (outcome_of s)) (sym e) (migrates ct name (outcome_of s) v n h)) p
 
 -- ---- what is answered over texts
 module _ (x : Result Answer NoMemory) (r : Asked) (rest : List (List ℕ)) where

@@ -13,14 +13,43 @@ use Rattle.emp_cert_text.specs.declared.read.CertFault.TheVariants as CertWords
 use Rattle.emp_cert_text.specs.Text.{cert_text}
 use Rattle.emp_cert_text.specs.Reading.{ReadFails}
 use Rattle.emp_check.specs.Checks.{checked, SizesAre}
-use Rattle.emp_cert_lines.specs.CertLines.{cert_line, accepted_line}
+use Rattle.emp_check.specs.declared.outcome.Why.{Why}
+use Rattle.emp_check.specs.declared.outcome.Checked.TheVariants.{Rejected, Wide as WideSum}
+use Rattle.emp_cert_text.specs.Writing.{longest}
+use Rattle.emp_cert_lines.specs.CertLines.{cert_line, long_line, rejected_line, sum_line, accepted_line, migrated_line}
 use Rattle.emp_solution.specs.declared.state.Stated.{Stated}
 use Rattle.emp_solution.specs.Stated.{IsStated}
 use Rattle.emp_answers.specs.declared.said.Answer.{Answer}
-use Rattle.emp_answers.specs.Answers.{saying, Refuses, Unaccepted, no_rows, bad_text, IsAccepted, Checks, unaccepted, accepted, Migrates, unmigrated, migrated_long, migrated}
+use Rattle.emp_answers.specs.Answers.{saying, Refuses, Unaccepted, no_rows, bad_text, rejected, wide_sum, IsAccepted, Checks, unaccepted, accepted, Migrates, unmigrated, migrated_long, migrated}
 use Rattle.emp_answers.specs.Outcomes.{outcome_of, StoredAnew}
 use Rattle.emp_answers.proofs.Oks.{ok_map}
 
 -- a text of a file that is loaded is not too long
 pub read_fault : (t : List ℕ) (f : CertFault) → length t ≤ 16777216 → ReadFails t f → f ≢ CertWords.TooLong
 read_fault t f l h e = absurd (let k : ReadFails t CertWords.TooLong = subst (ReadFails t) e h in omega (arith, k, l))
+
+-- ---- what the checker's answers come to
+pub rejected_tried : (m : Model) (a : Annot) (ct : List ℕ) (s : Stated) (c : Cert) (node : ℕ) (w : Why) (o : Outcome) → IsStated m a s → ct ≡ cert_text c → checked s.system c ≡ Rejected node w → o ≡ refusal 23 (rejected_line node w) → Unaccepted m a ct o
+rejected_tried m a ct s c node w o i t k e = subst (Unaccepted m a ct) (sym e) (rejected s c node w i t k)
+
+pub wide_tried : (m : Model) (a : Annot) (ct : List ℕ) (s : Stated) (c : Cert) (node : ℕ) (o : Outcome) → IsStated m a s → ct ≡ cert_text c → checked s.system c ≡ WideSum node → o ≡ refusal 19 (sum_line node) → Unaccepted m a ct o
+wide_tried m a ct s c node o i t k e = subst (Unaccepted m a ct) (sym e) (wide_sum s c node i t k)
+
+pub text_tried : (m : Model) (a : Annot) (ct : List ℕ) (s : Stated) (f : CertFault) (o : Outcome) → IsStated m a s → length ct ≤ 16777216 → ReadFails ct f → f ≢ CertWords.NoMemory → o ≡ refusal 22 (cert_line f) → Unaccepted m a ct o
+text_tried m a ct s f o i l h n e = subst (Unaccepted m a ct) (sym e) (bad_text s f n (read_fault ct f l h) i h)
+
+-- ---- certificates that are accepted, and stored anew
+pub accepted_checks : (m : Model) (a : Annot) (ct : List ℕ) (s : Stated) (c : Cert) (o : Outcome) → IsAccepted m a ct s c → o ≡ saying 0 (accepted_line c.verdict) → Checks m a ct o
+accepted_checks m a ct s c o h e = subst (Checks m a ct) (sym e) (accepted s c h)
+
+anew_one : (m : Model) (a : Annot) (ct name : List ℕ) (s : Stated) (c : Cert) (o : Outcome) → IsAccepted m a ct s c → StoredAnew s.system c name o → Migrates m a ct name o
+anew_one m a ct name s c o h k = go k.ends
+  where
+    go : ((length (cert_text k.named) ≤ longest) × (o ≡ record { status = 0; stores = (name, cert_text k.named) ∷ []; says = migrated_line k.named.verdict })) ⊎ ((longest < length (cert_text k.named)) × (o ≡ refusal 24 long_line)) → Migrates m a ct name o
+    go (inl e) = subst (Migrates m a ct name) (sym e.1) (migrated s c k.named h k.is e.0)
+    go (inr e) = subst (Migrates m a ct name) (sym e.1) (migrated_long s c k.named h k.is e.0)
+
+pub anew_migrates : (x : Result Answer NoMemory) (m : Model) (a : Annot) (ct name : List ℕ) (s : Stated) (c : Cert) → IsAccepted m a ct s c → IfOk x (λ o. StoredAnew s.system c name (outcome_of o)) → IfOk x (λ o. Migrates m a ct name (outcome_of o))
+anew_migrates x m a ct name s c h p = ok_map x (λ o. StoredAnew s.system c name (outcome_of o)) (λ o. Migrates m a ct name (outcome_of o)) (λ o k. anew_one m a ct name s c (outcome_of o) h k) p
+
+-- ---- the pairs of a system are numbers of its quantities

@@ -9,9 +9,9 @@ use Rattle.emp_cert.specs.declared.cert.Verdict.{Verdict}
 use Rattle.emp_cert.specs.declared.cert.Verdict.TheVariants.{Point, Missing, Best, Unbounded}
 use Rattle.emp_cert.specs.declared.tree.Tree.{Tree}
 use Rattle.emp_solution.specs.declared.state.Stated.{Stated}
-use Rattle.emp_solution.specs.declared.fill.FillFault.{FillFault}
-use Rattle.emp_solution.specs.declared.fill.FillFault.TheVariants.{Wide, NoMemory}
-use Rattle.emp_solution.specs.Pending.{spread}
+use Rattle.emp_subst.specs.declared.fault.FillFault.{FillFault}
+use Rattle.emp_subst.specs.declared.fault.FillFault.TheVariants.{Wide, NoMemory}
+use Rattle.emp_subst.specs.Fill.{spread}
 use Rattle.emp_report.specs.Report.{equilibrium_report, best_report, unbounded_report, missing_report}
 use Rattle.emp_answers.specs.declared.reports.Report.{Report}
 use Rattle.emp_answers.specs.Answers.{verdict_point, ReportOf, IsPointReport}

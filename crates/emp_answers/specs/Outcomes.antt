@@ -28,8 +28,8 @@ use Rattle.emp_cert.specs.declared.cert.Found.{Found}
 use Rattle.emp_cert_text.specs.declared.write.WriteFault.{WriteFault}
 use Rattle.emp_cert_text.specs.declared.write.WriteFault.TheVariants as WriteWords
 use Rattle.emp_solution.specs.declared.state.Stated.{Stated}
-use Rattle.emp_solution.specs.declared.fill.FillFault.{FillFault}
-use Rattle.emp_solution.specs.declared.fill.FillFault.TheVariants as FillWords
+use Rattle.emp_subst.specs.declared.fault.FillFault.{FillFault}
+use Rattle.emp_subst.specs.declared.fault.FillFault.TheVariants as FillWords
 use Rattle.emp_solution.specs.Stated.{IsStated, StateGives}
 use Rattle.emp_answers.specs.declared.said.Answer.{Answer}
 use Rattle.emp_answers.specs.declared.said.Answer.TheVariants.{Said, Refusal}

@@ -1,8 +1,8 @@
 //! The reports of what was found.
 ghost use Rattle.std.specs.Prelude.{◌≡◌, ◌<◌, length, IfOk, IfErr};
 ghost use Rattle.emp_ast.specs.Names.{variable_names};
-ghost use Rattle.emp_solution.specs.declared.fill.FillFault.TheVariants.{NoMemory as NoMemoryLeft};
-ghost use Rattle.emp_solution.specs.Pending.{spread};
+ghost use Rattle.emp_subst.specs.declared.fault.FillFault.TheVariants.{NoMemory as NoMemoryLeft};
+ghost use Rattle.emp_subst.specs.Fill.{spread};
 ghost use Rattle.emp_report.specs.Report.{equilibrium_report, best_report, unbounded_report, missing_report};
 ghost use Rattle.emp_answers.specs.Answers.{Fills};
 ghost use Rattle.emp_answers.specs.Outcomes.{IsReady, PointReportGives, ReportGives, report_of};
@@ -15,7 +15,8 @@ use emp_cert::tree::Tree;
 use emp_list::seq::Seq;
 use emp_num::frac::Frac;
 use emp_report::report;
-use emp_solution::fill::{FillFault, fill, spread};
+use emp_subst::fault::FillFault;
+use emp_subst::fill::{fill, spread};
 use std::alloc::Global;
 
 /// A status and a report.
@@ -33,6 +34,7 @@ fn values(
     ready: &Ready,
     point: &[Frac],
 ) -> Result<Seq<Frac>, FillFault>
+    requires variables { length model.now.variables < 4294967296 }
     requires ready { IsReady model.now annot.now ready.now }
     requires point { length point.now ≡ ready.now.stated.system.base }
     ensures { Fills model.now annot.now ready.now.stated point.now result }
@@ -57,6 +59,7 @@ fn equilibrium_of(
     work: u64,
     point: &[Frac],
 ) -> Result<Report, FillFault>
+    requires variables { length model.now.variables < 4294967296 }
     requires ready { IsReady model.now annot.now ready.now }
     requires point { length point.now ≡ ready.now.stated.system.base }
     ensures { PointReportGives model.now annot.now ready.now.stated point.now 0 (λ vs. equilibrium_report work (variable_names model.now) vs) result }
@@ -77,6 +80,7 @@ fn best_of(
     work: u64,
     point: &[Frac],
 ) -> Result<Report, FillFault>
+    requires variables { length model.now.variables < 4294967296 }
     requires ready { IsReady model.now annot.now ready.now }
     requires point { length point.now ≡ ready.now.stated.system.base }
     ensures { PointReportGives model.now annot.now ready.now.stated point.now 0 (λ vs. best_report work (variable_names model.now) vs) result }

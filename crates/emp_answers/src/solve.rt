@@ -22,7 +22,7 @@ use emp_command::words::Request;
 use emp_lines::classes;
 use emp_list::memory::NoMemory;
 use emp_rows::system::RowSystem;
-use emp_solution::fill::FillFault;
+use emp_subst::fault::FillFault;
 use emp_walk::fault::WalkFault;
 use emp_walk::walk::{bisearch, walk};
 use std::alloc::Global;

@@ -2,3 +2,13 @@ pub mod Adding
 pub mod Joining
 pub mod Upgrading
 pub mod Reading
+pub mod Numbers
+pub mod Spaced
+pub mod Factors
+pub mod Heads
+pub mod Nodes
+pub mod Places
+pub mod Whole
+pub mod Same
+pub mod Back
+pub mod Begin

@@ -2,4 +2,7 @@ pub mod Text
 pub mod Writing
 pub mod Upgrading
 pub mod Words
+pub mod Lines
+pub mod Course
 pub mod Reading
+pub mod Laws

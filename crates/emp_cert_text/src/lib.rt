@@ -1,6 +1,7 @@
 //! The texts of certificates.
 #![tactic(auto)]
 
+pub mod laws;
 pub mod lines;
 pub mod pieces;
 pub mod read;

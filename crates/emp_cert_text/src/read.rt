@@ -1,12 +1,19 @@
 //! The call that reads a certificate's text, line by line and without recursion.
-ghost use Rattle.std.specs.Prelude.{◌≡◌, ◌++◌, ◌∷◌, ◌+◌, ◌≤◌, ◌<◌, [], ℕ, List, length, drop, codes, Some, IfOk, IfErr, true};
+ghost use Rattle.std.specs.Prelude.{◌≡◌, ◌≢◌, ◌++◌, ◌∷◌, ◌+◌, ◌-◌, ◌≤◌, ◌<◌, [], ℕ, List, length, take, drop, codes, Some, IfOk, IfErr, Bool, true};
 ghost use Rattle.std.specs.List.{All};
+ghost use Rattle.std.specs.Bool.{Decides};
+ghost use Rattle.std.specs.Io.BufRead.{take_through, drop_through};
 ghost use Rattle.emp_rows.specs.Points.{IsNumber};
+ghost use Rattle.emp_cert.specs.declared.cert.Cert.{Cert};
 ghost use Rattle.emp_cert.specs.Certs.{Counts, LinksFit, NodeFits, TreeFits, VerdictFits};
 ghost use Rattle.emp_cert.specs.declared.tree.Node.{Node};
 ghost use Rattle.emp_cert.specs.Nodes.{AreTrees};
 ghost use Rattle.emp_cert_text.specs.Text.{cert_text, version_text, links_text, is_second, verdict_text, nodes_text, node_text, pair_text, pairs_text, point_text, ray_text, sizes_text};
-ghost use Rattle.emp_cert_text.specs.Reading.{ReadFails};
+ghost use Rattle.emp_cert_text.specs.Lines.{LineFails};
+ghost use Rattle.emp_cert_text.specs.declared.read.Spot.{Spot};
+ghost use Rattle.emp_cert_text.specs.Course.{Head, Part, Stands, Right, head_of, pairs_before, behind_counts, behind_node, trees_before, TakesPoint};
+ghost use Rattle.emp_cert_text.specs.Course.Part.{counts, pair, verdict, point, ray, tree, last};
+ghost use Rattle.emp_cert_text.specs.Reading.{ReadFails, IsRead, IsAt};
 ghost use Rattle.emp_cert_text.specs.Writing.{longest};
 
 use crate::lines::{LineFault, Sizes, counts_line, node_line, pair_line, point_line, ray_line};
@@ -33,30 +40,14 @@ pub enum CertFault {
     NoMemory,
 }
 
-/// Why a text of at most 16,777,216 bytes is no certificate's.
-#[derive(Clone, Copy, Debug, PartialEq, Eq)]
-enum TextFault {
-    Version,
-    Range(u64),
-    Syntax(u64),
-    NoMemory,
-}
+impl From<AllocError> for CertFault {
+    ghost use Rattle.std.specs.Prelude.{◌≡◌};
+    ghost use Rattle.emp_cert_text.specs.declared.read.CertFault.TheVariants.{NoMemory as no_memory};
 
-/// The fault of a text that is not too long.
-fn fault_of(fault: TextFault) -> CertFault
-    ensures { (t : List ℕ) → length t ≤ longest → ReadFails t result }
-{
-    match fault {
-        TextFault::Version => CertFault::Version,
-        TextFault::Range(line) => CertFault::Range(line),
-        TextFault::Syntax(line) => CertFault::Syntax(line),
-        TextFault::NoMemory => CertFault::NoMemory,
-    }
-}
+    ghost from_gives = { λ _ e. e ≡ no_memory };
 
-impl From<AllocError> for TextFault {
-    fn from(_refused: AllocError) -> TextFault {
-        TextFault::NoMemory
+    fn from(_refused: AllocError) -> CertFault {
+        CertFault::NoMemory
     }
 }
 
@@ -68,19 +59,25 @@ struct Spot {
 }
 
 /// The fault at a line.
-fn at_line(fault: LineFault, spot: Spot) -> TextFault {
+#[tactic(auto, using(crate::proofs::Places::failing))]
+fn at_line(fault: LineFault, spot: Spot) -> CertFault
+    ensures { (t : List ℕ) (p : Part) (ps : List Part) → length t ≤ longest → IsAt t (p ∷ ps) spot → LineFails (Right p (take_through 10 (drop spot.at t))) ((qs : List Part) × Stands p (take_through 10 (drop spot.at t)) qs) fault → ReadFails t result }
+{
     match fault {
-        LineFault::Range => TextFault::Range(spot.line),
-        LineFault::Syntax => TextFault::Syntax(spot.line),
-        LineFault::NoMemory => TextFault::NoMemory,
+        LineFault::Range => CertFault::Range(spot.line),
+        LineFault::Syntax => CertFault::Syntax(spot.line),
+        LineFault::NoMemory => CertFault::NoMemory,
     }
 }
 
 /// Where the line that begins at a place ends, behind its LF.
+#[tactic(auto, using(crate::proofs::Places::ending))]
 fn line_end(text: &[u8], from: usize) -> usize
     requires { from ≤ length text.now }
     ensures from { from ≤ result }
     ensures within { result ≤ length text.now }
+    ensures line { take (result - from) (drop from text.now) ≡ take_through 10 (drop from text.now) }
+    ensures rest { drop result text.now ≡ drop_through 10 (drop from text.now) }
 {
     for at in from..text.len() {
         if text[at] == b'\n' {
@@ -95,14 +92,19 @@ fn line_at(text: &[u8], from: usize) -> &[u8]
     requires { from ≤ length text.now }
     ensures rest { drop from text.now ≡ result.now ++ drop (from + length result.now) text.now }
     ensures within { from + length result.now ≤ length text.now }
+    ensures line { result.now ≡ take_through 10 (drop from text.now) }
+    ensures after { drop (from + length result.now) text.now ≡ drop_through 10 (drop from text.now) }
 {
     &text[from..line_end(text, from)]
 }
 
 /// The place behind a line.
+#[tactic(auto, using(crate::proofs::Places::going))]
 fn behind(spot: Spot, line: &[u8], text: &[u8]) -> Spot
-    requires { spot.at + length line.now ≤ length text.now }
-    ensures { result.at ≡ spot.at + length line.now }
+    requires within { spot.at + length line.now ≤ length text.now }
+    requires short { length text.now ≤ 16777216 }
+    ensures at { result.at ≡ spot.at + length line.now }
+    ensures next { (p : Part) (ps qs : List Part) → IsAt text.now (p ∷ ps) spot → line.now ≡ take_through 10 (drop spot.at text.now) → drop (spot.at + length line.now) text.now ≡ drop_through 10 (drop spot.at text.now) → Stands p line.now qs → IsAt text.now (qs ++ ps) result }
 {
     Spot {
         at: spot.at + line.len(),
@@ -112,10 +114,13 @@ fn behind(spot: Spot, line: &[u8], text: &[u8]) -> Spot
 
 /// The counts.
 #[tactic(auto, using(crate::proofs::Reading::lining))]
-fn sizes_from(alloc: Global, text: &[u8], spot: Spot) -> Result<(Sizes, Spot), TextFault>
-    requires { spot.at ≤ length text.now }
+fn sizes_from(alloc: Global, text: &[u8], spot: Spot) -> Result<(Sizes, Spot), CertFault>
+    requires at { spot.at ≤ length text.now }
+    requires short { length text.now ≤ 16777216 }
     ensures text { IfOk result (λ r. drop spot.at text.now ≡ sizes_text r.0.base r.0.quantities r.0.pairs ++ drop r.1.at text.now) }
     ensures within { IfOk result (λ r. r.1.at ≤ length text.now) }
+    ensures next { (second : Bool) (ps : List Part) → IsAt text.now (counts second ∷ ps) spot → IfOk result (λ r. IsAt text.now (behind_counts second r.0.base r.0.quantities r.0.pairs ++ ps) r.1) }
+    ensures err { (second : Bool) (ps : List Part) → IsAt text.now (counts second ∷ ps) spot → IfErr result (ReadFails text.now) }
 {
     let line = line_at(text, spot.at);
     match counts_line(alloc, line) {
@@ -131,12 +136,15 @@ fn pair_from(
     text: &[u8],
     spot: Spot,
     quantities: u32,
-) -> Result<((u32, u32), Spot), TextFault>
-    requires { spot.at ≤ length text.now }
+) -> Result<((u32, u32), Spot), CertFault>
+    requires at { spot.at ≤ length text.now }
+    requires short { length text.now ≤ 16777216 }
     ensures text { IfOk result (λ r. drop spot.at text.now ≡ pair_text r.0 ++ drop r.1.at text.now) }
     ensures first { IfOk result (λ r. IsNumber quantities r.0.0) }
     ensures second { IfOk result (λ r. IsNumber quantities r.0.1) }
     ensures within { IfOk result (λ r. r.1.at ≤ length text.now) }
+    ensures next { (ps : List Part) → IsAt text.now (pair quantities ∷ ps) spot → IfOk result (λ r. IsAt text.now ps r.1) }
+    ensures err { (ps : List Part) → IsAt text.now (pair quantities ∷ ps) spot → IfErr result (ReadFails text.now) }
 {
     let line = line_at(text, spot.at);
     match pair_line(alloc, line, quantities) {
@@ -153,17 +161,17 @@ fn node_from(
     spot: Spot,
     second: bool,
     sizes: Sizes,
-) -> Result<(Node, Spot), TextFault>
-    requires { spot.at ≤ length text.now }
+) -> Result<(Node, Spot), CertFault>
+    requires at { spot.at ≤ length text.now }
+    requires short { length text.now ≤ 16777216 }
     ensures text { IfOk result (λ r. drop spot.at text.now ≡ node_text second r.0 ++ drop r.1.at text.now) }
     ensures fits { IfOk result (λ r. NodeFits sizes.pairs sizes.quantities r.0) }
     ensures further { IfOk result (λ r. spot.at < r.1.at) }
     ensures within { IfOk result (λ r. r.1.at ≤ length text.now) }
+    ensures next { (b : ℕ) (ps : List Part) → IsAt text.now (tree (head_of second b sizes.quantities sizes.pairs) ∷ ps) spot → IfOk result (λ r. IsAt text.now (behind_node (head_of second b sizes.quantities sizes.pairs) r.0 ++ ps) r.1) }
+    ensures err { (b : ℕ) (ps : List Part) → IsAt text.now (tree (head_of second b sizes.quantities sizes.pairs) ∷ ps) spot → IfErr result (ReadFails text.now) }
 {
     let line = line_at(text, spot.at);
-    if line.is_empty() {
-        return Err(TextFault::Syntax(spot.line));
-    }
     match node_line(alloc, line, second, sizes) {
         Ok(node) => Ok((node, behind(spot, line, text))),
         Err(fault) => Err(at_line(fault, spot)),
@@ -177,11 +185,14 @@ fn point_from(
     text: &[u8],
     spot: Spot,
     base: u32,
-) -> Result<(Seq<Frac>, Spot), TextFault>
-    requires { spot.at ≤ length text.now }
+) -> Result<(Seq<Frac>, Spot), CertFault>
+    requires at { spot.at ≤ length text.now }
+    requires short { length text.now ≤ 16777216 }
     ensures text { IfOk result (λ r. drop spot.at text.now ≡ point_text r.0 ++ drop r.1.at text.now) }
     ensures count { IfOk result (λ r. length r.0 ≡ base) }
     ensures within { IfOk result (λ r. r.1.at ≤ length text.now) }
+    ensures next { (p : Part) (ps : List Part) → IsAt text.now (p ∷ ps) spot → TakesPoint base p (take_through 10 (drop spot.at text.now)) → IfOk result (λ r. IsAt text.now ps r.1) }
+    ensures err { (p : Part) (ps : List Part) → IsAt text.now (p ∷ ps) spot → TakesPoint base p (take_through 10 (drop spot.at text.now)) → IfErr result (ReadFails text.now) }
 {
     let line = line_at(text, spot.at);
     match point_line(alloc, line, base) {
@@ -197,11 +208,14 @@ fn ray_from(
     text: &[u8],
     spot: Spot,
     base: u32,
-) -> Result<(Seq<Frac>, Spot), TextFault>
-    requires { spot.at ≤ length text.now }
+) -> Result<(Seq<Frac>, Spot), CertFault>
+    requires at { spot.at ≤ length text.now }
+    requires short { length text.now ≤ 16777216 }
     ensures text { IfOk result (λ r. drop spot.at text.now ≡ ray_text r.0 ++ drop r.1.at text.now) }
     ensures count { IfOk result (λ r. length r.0 ≡ base) }
     ensures within { IfOk result (λ r. r.1.at ≤ length text.now) }
+    ensures next { (ps : List Part) → IsAt text.now (ray base ∷ ps) spot → IfOk result (λ r. IsAt text.now ps r.1) }
+    ensures err { (ps : List Part) → IsAt text.now (ray base ∷ ps) spot → IfErr result (ReadFails text.now) }
 {
     let line = line_at(text, spot.at);
     match ray_line(alloc, line, base) {
@@ -212,15 +226,18 @@ fn ray_from(
 
 /// Whether the line is this text.
 fn is_text(line: &[u8], text: &[u8]) -> bool
-    ensures { result ≡ true → line.now ≡ text.now }
+    ensures { Decides result (line.now ≡ text.now) }
 {
     line == text
 }
 
 /// Whether the text is of version 2, by its first line.
-fn version_of(text: &[u8]) -> Result<bool, TextFault>
+fn version_of(text: &[u8]) -> Result<bool, CertFault>
+    requires { length text.now ≤ 16777216 }
     ensures text { IfOk result (λ b. text.now ≡ version_text b ++ drop 18 text.now) }
     ensures within { IfOk result (λ b. 18 ≤ length text.now) }
+    ensures next { (s : Spot) → s.at ≡ 18 → s.line ≡ 2 → IfOk result (λ b. IsAt text.now (counts b ∷ []) s) }
+    ensures err { IfErr result (ReadFails text.now) }
 {
     let line = line_at(text, 0);
     if is_text(line, b"emp certificate 1\n") {
@@ -229,10 +246,7 @@ fn version_of(text: &[u8]) -> Result<bool, TextFault>
     if is_text(line, b"emp certificate 2\n") {
         return Ok(true);
     }
-    if is_text(line, b"emp certificate 1") || is_text(line, b"emp certificate 2") {
-        return Err(TextFault::Syntax(1));
-    }
-    Err(TextFault::Version)
+    Err(CertFault::Version)
 }
 
 /// The pairs that version 2 names.
@@ -242,11 +256,14 @@ fn pairs_from(
     text: &[u8],
     spot: Spot,
     sizes: Sizes,
-) -> Result<(Seq<(u32, u32)>, Spot), TextFault>
-    requires { spot.at ≤ length text.now }
+) -> Result<(Seq<(u32, u32)>, Spot), CertFault>
+    requires at { spot.at ≤ length text.now }
+    requires short { length text.now ≤ 16777216 }
     ensures text { IfOk result (λ r. drop spot.at text.now ≡ pairs_text r.0 ++ drop r.1.at text.now) }
     ensures fits { IfOk result (λ r. LinksFit sizes.quantities sizes.pairs r.0) }
     ensures within { IfOk result (λ r. r.1.at ≤ length text.now) }
+    ensures next { (ps : List Part) → IsAt text.now (pairs_before sizes.pairs sizes.quantities ps) spot → IfOk result (λ r. IsAt text.now ps r.1) }
+    ensures err { (ps : List Part) → IsAt text.now (pairs_before sizes.pairs sizes.quantities ps) spot → IfErr result (ReadFails text.now) }
 {
     let mut out = Seq::new(alloc);
     let mut here = spot;
@@ -265,6 +282,7 @@ fn awaited_after(node: &Node, awaited: usize) -> usize
     requires few { awaited ≤ 16777217 }
     ensures trees { (ns : List Node) → AreTrees result ns → AreTrees awaited (node.now ∷ ns) }
     ensures more { result ≤ awaited + 1 }
+    ensures parts { (h : Head) (ps : List Part) → behind_node h node.now ++ trees_before (awaited - 1) h ps ≡ trees_before result h ps }
 {
     match node {
         Node::Branch(_) => awaited + 1,
@@ -281,12 +299,14 @@ fn tree_from(
     spot: Spot,
     second: bool,
     sizes: Sizes,
-) -> Result<(Tree, Spot), TextFault>
+) -> Result<(Tree, Spot), CertFault>
     requires at { spot.at ≤ length text.now }
     requires short { length text.now ≤ 16777216 }
     ensures text { IfOk result (λ r. drop spot.at text.now ≡ nodes_text second r.0.nodes ++ drop r.1.at text.now) }
     ensures fits { IfOk result (λ r. TreeFits sizes.pairs sizes.quantities r.0) }
     ensures within { IfOk result (λ r. r.1.at ≤ length text.now) }
+    ensures next { (b : ℕ) (ps : List Part) → IsAt text.now (tree (head_of second b sizes.quantities sizes.pairs) ∷ ps) spot → IfOk result (λ r. IsAt text.now ps r.1) }
+    ensures err { (b : ℕ) (ps : List Part) → IsAt text.now (tree (head_of second b sizes.quantities sizes.pairs) ∷ ps) spot → IfErr result (ReadFails text.now) }
 {
     let mut nodes = Seq::new(alloc);
     let mut here = spot;
@@ -308,12 +328,14 @@ fn missing_from(
     spot: Spot,
     second: bool,
     sizes: Sizes,
-) -> Result<(Verdict, Spot), TextFault>
+) -> Result<(Verdict, Spot), CertFault>
     requires at { spot.at ≤ length text.now }
     requires short { length text.now ≤ 16777216 }
     ensures text { IfOk result (λ r. codes "none\n" ++ drop spot.at text.now ≡ verdict_text second r.0 ++ drop r.1.at text.now) }
     ensures fits { IfOk result (λ r. VerdictFits sizes.base sizes.quantities sizes.pairs r.0) }
     ensures within { IfOk result (λ r. r.1.at ≤ length text.now) }
+    ensures next { (ps : List Part) → IsAt text.now (tree (head_of second sizes.base sizes.quantities sizes.pairs) ∷ ps) spot → IfOk result (λ r. IsAt text.now ps r.1) }
+    ensures err { (ps : List Part) → IsAt text.now (tree (head_of second sizes.base sizes.quantities sizes.pairs) ∷ ps) spot → IfErr result (ReadFails text.now) }
 {
     let (tree, end) = tree_from(alloc, text, spot, second, sizes)?;
     Ok((Verdict::Missing(tree), end))
@@ -327,12 +349,14 @@ fn best_from(
     spot: Spot,
     second: bool,
     sizes: Sizes,
-) -> Result<(Verdict, Spot), TextFault>
+) -> Result<(Verdict, Spot), CertFault>
     requires at { spot.at ≤ length text.now }
     requires short { length text.now ≤ 16777216 }
     ensures text { IfOk result (λ r. codes "best\n" ++ drop spot.at text.now ≡ verdict_text second r.0 ++ drop r.1.at text.now) }
     ensures fits { IfOk result (λ r. VerdictFits sizes.base sizes.quantities sizes.pairs r.0) }
     ensures within { IfOk result (λ r. r.1.at ≤ length text.now) }
+    ensures next { (ps : List Part) → IsAt text.now (point sizes.base ∷ (tree (head_of second sizes.base sizes.quantities sizes.pairs) ∷ ps)) spot → IfOk result (λ r. IsAt text.now ps r.1) }
+    ensures err { (ps : List Part) → IsAt text.now (point sizes.base ∷ (tree (head_of second sizes.base sizes.quantities sizes.pairs) ∷ ps)) spot → IfErr result (ReadFails text.now) }
 {
     let (point, middle) = point_from(alloc, text, spot, sizes.base)?;
     let (tree, end) = tree_from(alloc, text, middle, second, sizes)?;
@@ -347,11 +371,14 @@ fn unbounded_from(
     spot: Spot,
     second: bool,
     sizes: Sizes,
-) -> Result<(Verdict, Spot), TextFault>
+) -> Result<(Verdict, Spot), CertFault>
     requires at { spot.at ≤ length text.now }
+    requires short { length text.now ≤ 16777216 }
     ensures text { IfOk result (λ r. codes "unbounded\n" ++ drop spot.at text.now ≡ verdict_text second r.0 ++ drop r.1.at text.now) }
     ensures fits { IfOk result (λ r. VerdictFits sizes.base sizes.quantities sizes.pairs r.0) }
     ensures within { IfOk result (λ r. r.1.at ≤ length text.now) }
+    ensures next { (ps : List Part) → IsAt text.now (point sizes.base ∷ (ray sizes.base ∷ ps)) spot → IfOk result (λ r. IsAt text.now ps r.1) }
+    ensures err { (ps : List Part) → IsAt text.now (point sizes.base ∷ (ray sizes.base ∷ ps)) spot → IfErr result (ReadFails text.now) }
 {
     let (point, middle) = point_from(alloc, text, spot, sizes.base)?;
     let (step, end) = ray_from(alloc, text, middle, sizes.base)?;
@@ -369,12 +396,14 @@ fn verdict_from(
     spot: Spot,
     second: bool,
     sizes: Sizes,
-) -> Result<(Verdict, Spot), TextFault>
+) -> Result<(Verdict, Spot), CertFault>
     requires at { spot.at ≤ length text.now }
     requires short { length text.now ≤ 16777216 }
     ensures text { IfOk result (λ r. drop spot.at text.now ≡ verdict_text second r.0 ++ drop r.1.at text.now) }
     ensures fits { IfOk result (λ r. VerdictFits sizes.base sizes.quantities sizes.pairs r.0) }
     ensures within { IfOk result (λ r. r.1.at ≤ length text.now) }
+    ensures next { (ps : List Part) → IsAt text.now (verdict (head_of second sizes.base sizes.quantities sizes.pairs) ∷ ps) spot → IfOk result (λ r. IsAt text.now ps r.1) }
+    ensures err { (ps : List Part) → IsAt text.now (verdict (head_of second sizes.base sizes.quantities sizes.pairs) ∷ ps) spot → IfErr result (ReadFails text.now) }
 {
     let line = line_at(text, spot.at);
     if is_text(line, b"none\n") {
@@ -391,16 +420,19 @@ fn verdict_from(
 }
 
 /// The last line, and nothing behind it.
-fn end_from(text: &[u8], spot: Spot) -> Result<(), TextFault>
-    requires { spot.at ≤ length text.now }
-    ensures { IfOk result (λ u. drop spot.at text.now ≡ codes "end\n") }
+fn end_from(text: &[u8], spot: Spot) -> Result<(), CertFault>
+    requires at { spot.at ≤ length text.now }
+    requires short { length text.now ≤ 16777216 }
+    ensures text { IfOk result (λ u. drop spot.at text.now ≡ codes "end\n") }
+    ensures err { IsAt text.now (last ∷ []) spot → IfErr result (ReadFails text.now) }
 {
     let line = line_at(text, spot.at);
     if !is_text(line, b"end\n") {
-        return Err(TextFault::Syntax(spot.line));
+        return Err(at_line(LineFault::Syntax, spot));
     }
-    if spot.at + line.len() < text.len() {
-        return Err(TextFault::Syntax(spot.line.saturating_add(1)));
+    let end = behind(spot, line, text);
+    if end.at < text.len() {
+        return Err(CertFault::Syntax(end.line));
     }
     Ok(())
 }
@@ -412,12 +444,15 @@ fn links_from(
     spot: Spot,
     second: bool,
     sizes: Sizes,
-) -> Result<(Option<Seq<(u32, u32)>>, Spot), TextFault>
-    requires { spot.at ≤ length text.now }
+) -> Result<(Option<Seq<(u32, u32)>>, Spot), CertFault>
+    requires at { spot.at ≤ length text.now }
+    requires short { length text.now ≤ 16777216 }
     ensures text { IfOk result (λ r. drop spot.at text.now ≡ links_text r.0 ++ drop r.1.at text.now) }
     ensures version { IfOk result (λ r. is_second r.0 ≡ second) }
     ensures fits { IfOk result (λ r. (ps : List (ℕ × ℕ)) → r.0 ≡ Some ps → LinksFit sizes.quantities sizes.pairs ps) }
     ensures within { IfOk result (λ r. r.1.at ≤ length text.now) }
+    ensures next { IsAt text.now (behind_counts second sizes.base sizes.quantities sizes.pairs) spot → IfOk result (λ r. IsAt text.now (verdict (head_of second sizes.base sizes.quantities sizes.pairs) ∷ (last ∷ [])) r.1) }
+    ensures err { IsAt text.now (behind_counts second sizes.base sizes.quantities sizes.pairs) spot → IfErr result (ReadFails text.now) }
 {
     if !second {
         return Ok((None, spot));
@@ -428,9 +463,10 @@ fn links_from(
 
 /// The certificate of a text of at most 16,777,216 bytes.
 #[tactic(auto, using(crate::proofs::Reading::wholes))]
-fn read_short(alloc: Global, text: &[u8]) -> Result<Cert, TextFault>
+fn read_short(alloc: Global, text: &[u8]) -> Result<Cert, CertFault>
     requires { length text.now ≤ 16777216 }
     ensures text { IfOk result (λ c. text.now ≡ cert_text c) }
+    ensures err { IfErr result (ReadFails text.now) }
 {
     let second = version_of(text)?;
     let start = Spot { at: 18, line: 2 };
@@ -449,19 +485,18 @@ fn read_short(alloc: Global, text: &[u8]) -> Result<Cert, TextFault>
 
 /// The certificate that the text is the text of.
 ///
-/// `TooLong` exactly where the text has more than 16,777,216 bytes. `Version`: the first line is that of no version. `Range`:
-/// the first line that no certificate has at its place has the right words, counts and order, and a number is outside its
-/// range. `Syntax`: any other fault of that line; a line that is missing and a rest after `end` are such faults too.
+/// `TooLong` exactly where the text has more than 16,777,216 bytes. `Version` exactly where the first line is neither
+/// `emp certificate 1` nor `emp certificate 2`, each with its LF. `Range`: the first line that no certificate has at its
+/// place has the right words, counts and order, and a number is outside its range. `Syntax`: any other fault of that line;
+/// a line that is missing and a rest after `end` are such faults too. `specs/Course.antt` says what may stand where.
 pub fn read(alloc: Global, text: &[u8]) -> Result<Cert, CertFault>
     ensures text { IfOk result (λ c. text.now ≡ cert_text c) }
     ensures short { IfOk result (λ c. length text.now ≤ longest) }
     ensures fault { IfErr result (ReadFails text.now) }
+    ensures each { (c : Cert) → length text.now ≤ longest → text.now ≡ cert_text c → IsRead c result }
 {
     if text.len() > LONGEST {
         return Err(CertFault::TooLong);
     }
-    match read_short(alloc, text) {
-        Ok(cert) => Ok(cert),
-        Err(fault) => Err(fault_of(fault)),
-    }
+    read_short(alloc, text)
 }

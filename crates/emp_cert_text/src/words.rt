@@ -1,10 +1,12 @@
 //! Words of a line as numbers. A number is whole, or a fraction in lowest terms, and has one form.
-ghost use Rattle.std.specs.Prelude.{◌≡◌, ◌≤◌, ◌<◌, ℕ, length, true};
-ghost use Rattle.emp_cert_text.specs.Words.{IsNarrowNumber};
+ghost use Rattle.std.specs.Prelude.{◌≡◌, ◌≤◌, ◌<◌, ◌^◌, ◌+◌, ◌-◌, ◌*◌, [], ◌∷◌, ◌++◌, ℕ, length, take, drop, true, nat_eq, pos, ◌<ℤ◌, MatchOption};
+ghost use Rattle.std.specs.Bool.{Decides};
+ghost use Rattle.emp_num.specs.Exact.{IsNarrow, IsWide};
+ghost use Rattle.emp_num.specs.Numeral.{digit, first};
+ghost use Rattle.emp_cert_text.specs.Words.{are_digits, value, is_count, is_whole, whole, CountGives, NumberGives, LowestGives, FractionGives, lacks, first_word, after_word};
 
-use emp_num::exact::{product, sum};
+use emp_num::exact::{LIMIT, gcd};
 use emp_num::frac::Frac;
-use std::cmp::Ordering;
 
 /// What a word is as a whole number.
 #[derive(Clone, Copy, Debug, PartialEq, Eq)]
@@ -26,57 +28,134 @@ pub enum Fraction {
     Is(Frac),
 }
 
-/// The number with a digit more.
-fn with_digit(number: Number, digit: u8) -> Number
-    requires { IsNarrowNumber number }
-    ensures { IsNarrowNumber result }
+// ---- digits
+fn is_digit(b: u8) -> bool
+    ensures { result ≡ digit b }
 {
-    let Number::Is(value) = number else {
-        return number;
-    };
-    let Ok(tens) = product(value, 10) else {
-        return Number::Outside;
-    };
-    match sum(tens, i128::from(digit.saturating_sub(48))) {
-        Ok(more) => Number::Is(more),
-        Err(_) => Number::Outside,
+    47 < b && b < 58
+}
+
+/// Whether all bytes are digits.
+#[tactic(auto, using(crate::proofs::Numbers::digiting))]
+fn are_digits(word: &[u8]) -> bool
+    ensures { result ≡ are_digits word.now }
+{
+    for at in 0..word.len() {
+        if !is_digit(word[at]) {
+            return false;
+        }
+    }
+    true
+}
+
+/// The number with a digit more, and none where it is 2^126 or more.
+fn with_digit(number: u128, digit: u8) -> Option<u128>
+    ensures { MatchOption result (2 ^ 126 ≤ number * 10 + (digit - 48)) (λ v. (v ≡ number * 10 + (digit - 48)) × (v < 2 ^ 126)) }
+{
+    let tens = number.checked_mul(10)?;
+    let more = tens.checked_add(u128::from(digit.saturating_sub(48)))?;
+    if more < LIMIT.unsigned_abs() {
+        Some(more)
+    } else {
+        None
     }
 }
 
-/// The number that digits write, with no zero before another digit.
-fn count_in(word: &[u8]) -> Number
-    ensures { IsNarrowNumber result }
+/// The number that digits write, and none where it is 2^126 or more.
+#[tactic(auto, using(emp_num::proofs::Numerals::valuing))]
+fn value_of(digits: &[u8]) -> Option<u128>
+    ensures { MatchOption result (2 ^ 126 ≤ value digits.now) (λ v. (v ≡ value digits.now) × (v < 2 ^ 126)) }
 {
-    if word.is_empty() || (word.len() > 1 && word[0] == b'0') {
+    let mut number = 0;
+    for at in 0..digits.len() {
+        number = with_digit(number, digits[at])?;
+    }
+    Some(number)
+}
+
+/// Whether the word is digits, with no zero before another digit.
+#[tactic(auto, using(crate::proofs::Numbers::counting))]
+fn is_count(word: &[u8]) -> bool
+    ensures { result ≡ is_count word.now }
+{
+    are_digits(word) && (word.len() == 1 || (!word.is_empty() && word[0] > 48))
+}
+
+/// The count that a word writes.
+#[tactic(auto, using(crate::proofs::Numbers::counting))]
+fn count_in(word: &[u8]) -> Number
+    ensures { CountGives word.now result }
+{
+    if !is_count(word) {
         return Number::No;
     }
-    let mut number = Number::Is(0);
-    for at in 0..word.len() {
-        if !word[at].is_ascii_digit() {
-            return Number::No;
-        }
-        number = with_digit(number, word[at]);
+    match value_of(word) {
+        None => Number::Outside,
+        Some(value) => Number::Is(value as i128),
     }
-    number
+}
+
+/// The number below 0 that a `-` and digits write.
+#[tactic(auto, using(crate::proofs::Numbers::signing))]
+fn below_in(digits: &[u8]) -> Number
+    ensures { NumberGives (45 ∷ digits.now) result }
+{
+    match count_in(digits) {
+        Number::No => Number::No,
+        Number::Outside => Number::Outside,
+        Number::Is(0) => Number::No,
+        Number::Is(size) => Number::Is(-size),
+    }
+}
+
+/// The first byte, and 0 where there is none.
+fn head(text: &[u8]) -> u8
+    ensures { result ≡ first text.now }
+{
+    if text.is_empty() { 0 } else { text[0] }
+}
+
+/// What follows the first byte.
+fn behind(text: &[u8]) -> &[u8]
+    ensures { result.now ≡ drop 1 text.now }
+{
+    if text.is_empty() { text } else { &text[1..] }
+}
+
+/// What stands before a place.
+pub fn up_to(text: &[u8], at: usize) -> &[u8]
+    requires { at ≤ length text.now }
+    ensures { result.now ≡ take at text.now }
+{
+    &text[..at]
+}
+
+/// What stands from a place on.
+pub fn from(text: &[u8], at: usize) -> &[u8]
+    requires { at ≤ length text.now }
+    ensures { result.now ≡ drop at text.now }
+{
+    &text[at..]
 }
 
 /// The whole number that a word writes, with a `-` before it where it is below 0.
+#[tactic(auto, using(crate::proofs::Numbers::signing))]
 pub fn whole_in(word: &[u8]) -> Number
-    ensures { IsNarrowNumber result }
+    ensures { NumberGives word.now result }
 {
-    if word.is_empty() || word[0] != b'-' {
-        return count_in(word);
-    }
-    match count_in(&word[1..]) {
-        Number::Is(0) => Number::No,
-        Number::Is(size) => Number::Is(-size),
-        other => other,
+    if head(word) == b'-' {
+        below_in(behind(word))
+    } else {
+        count_in(word)
     }
 }
 
 /// Where a byte stands first, and the word's length where it does not.
+#[tactic(auto, using(crate::proofs::Numbers::placing))]
 pub fn place_of(word: &[u8], byte: u8) -> usize
-    ensures { result ≤ length word.now }
+    ensures within { result ≤ length word.now }
+    ensures before { lacks byte (take result word.now) ≡ true }
+    ensures at { result < length word.now → word.now ≡ take result word.now ++ (byte ∷ drop (result + 1) word.now) }
 {
     for at in 0..word.len() {
         if word[at] == byte {
@@ -87,109 +166,183 @@ pub fn place_of(word: &[u8], byte: u8) -> usize
 }
 
 /// The quotient of two numbers, where it is in lowest terms already.
-fn lowest(num: i128, den: i128) -> Fraction {
-    if den < 2 {
+#[tactic(auto, using(crate::proofs::Numbers::lowering))]
+fn lowest(num: i128, den: i128) -> Fraction
+    requires narrow_num { IsNarrow num }
+    requires narrow_den { IsNarrow den }
+    requires positive { pos 0 <ℤ den }
+    ensures { LowestGives num den result }
+{
+    if gcd(num, den) != 1 {
         return Fraction::No;
     }
-    match Frac::new(num, den) {
-        Ok(value) => {
-            if value.num() == num && value.den() == den {
-                Fraction::Is(value)
-            } else {
-                Fraction::No
-            }
-        }
-        Err(_) => Fraction::Outside,
-    }
+    Fraction::Is(Frac { num, den })
 }
 
-/// The quotient of two numbers of which one may be too wide.
-fn quotient_of(num: Number, den: Number) -> Fraction {
-    match (num, den) {
-        (Number::No, _) => Fraction::No,
-        (_, Number::No) => Fraction::No,
-        (Number::Is(num), Number::Is(den)) => lowest(num, den),
-        (Number::Outside, Number::Is(den)) => {
-            if den < 2 {
+/// The quotient of a number that is too wide.
+#[tactic(auto, using(crate::proofs::Numbers::dividing))]
+fn over_wide(num: &[u8], den: &[u8]) -> Fraction
+    requires before { lacks 47 num.now ≡ true }
+    requires whole { is_whole num.now ≡ true }
+    requires wide { IsWide (whole num.now) }
+    ensures { FractionGives (num.now ++ 47 ∷ den.now) result }
+{
+    match count_in(den) {
+        Number::No => Fraction::No,
+        Number::Outside => Fraction::Outside,
+        Number::Is(bottom) => {
+            if bottom < 2 {
                 Fraction::No
             } else {
                 Fraction::Outside
             }
         }
-        (_, Number::Outside) => Fraction::Outside,
+    }
+}
+
+/// The quotient of a number that is not.
+#[tactic(auto, using(crate::proofs::Numbers::dividing))]
+fn over_narrow(num: &[u8], top: i128, den: &[u8]) -> Fraction
+    requires before { lacks 47 num.now ≡ true }
+    requires whole { is_whole num.now ≡ true }
+    requires is { top ≡ whole num.now }
+    requires narrow { IsNarrow top }
+    ensures { FractionGives (num.now ++ 47 ∷ den.now) result }
+{
+    match count_in(den) {
+        Number::No => Fraction::No,
+        Number::Outside => Fraction::Outside,
+        Number::Is(bottom) => {
+            if bottom < 2 {
+                Fraction::No
+            } else {
+                lowest(top, bottom)
+            }
+        }
+    }
+}
+
+/// The quotient of what stands before a slash and what stands behind it.
+#[tactic(auto, using(crate::proofs::Numbers::dividing))]
+fn quotient_in(num: &[u8], den: &[u8]) -> Fraction
+    requires before { lacks 47 num.now ≡ true }
+    ensures { FractionGives (num.now ++ 47 ∷ den.now) result }
+{
+    match whole_in(num) {
+        Number::No => Fraction::No,
+        Number::Outside => over_wide(num, den),
+        Number::Is(top) => over_narrow(num, top, den),
+    }
+}
+
+/// A whole number as a fraction.
+#[tactic(auto, using(crate::proofs::Numbers::dividing))]
+fn whole_fraction(word: &[u8]) -> Fraction
+    requires { lacks 47 word.now ≡ true }
+    ensures { FractionGives word.now result }
+{
+    match whole_in(word) {
+        Number::No => Fraction::No,
+        Number::Outside => Fraction::Outside,
+        Number::Is(num) => Fraction::Is(Frac { num, den: 1 }),
     }
 }
 
 /// The fraction that a word writes.
-pub fn fraction_in(word: &[u8]) -> Fraction {
+#[tactic(auto, using(crate::proofs::Numbers::dividing))]
+pub fn fraction_in(word: &[u8]) -> Fraction
+    ensures { FractionGives word.now result }
+{
     let slash = place_of(word, b'/');
     if slash < word.len() {
-        return quotient_of(whole_in(&word[..slash]), count_in(&word[slash + 1..]));
-    }
-    match whole_in(word) {
-        Number::No => Fraction::No,
-        Number::Outside => Fraction::Outside,
-        Number::Is(num) => match Frac::new(num, 1) {
-            Ok(value) => Fraction::Is(value),
-            Err(_) => Fraction::Outside,
-        },
+        quotient_in(up_to(word, slash), from(word, slash + 1))
+    } else {
+        whole_fraction(word)
     }
 }
 
-/// How the digits of two numbers, with no zero before another digit, stand to each other.
-fn order_of(a: &[u8], b: &[u8]) -> Ordering {
+// ---- order
+/// Whether a count is below another, both as digits.
+#[tactic(auto, using(crate::proofs::Numbers::ordering))]
+fn is_less(a: &[u8], b: &[u8]) -> bool
+    ensures { is_count a.now ≡ true → is_count b.now ≡ true → Decides result (value a.now < value b.now) }
+{
     if a.len() < b.len() {
-        return Ordering::Less;
+        return true;
     }
     if a.len() > b.len() {
-        return Ordering::Greater;
+        return false;
     }
     for at in 0..a.len() {
         if a[at] < b[at] {
-            return Ordering::Less;
+            return true;
         }
         if a[at] > b[at] {
-            return Ordering::Greater;
+            return false;
         }
     }
-    Ordering::Equal
+    false
 }
 
 /// Whether a whole number is below another, both as words.
-pub fn is_below(a: &[u8], b: &[u8]) -> bool {
-    let a_negative = !a.is_empty() && a[0] == b'-';
-    let b_negative = !b.is_empty() && b[0] == b'-';
-    if a_negative && b_negative {
-        return order_of(&b[1..], &a[1..]) == Ordering::Less;
+#[tactic(auto, using(crate::proofs::Numbers::ordering))]
+pub fn is_below(a: &[u8], b: &[u8]) -> bool
+    ensures { is_whole a.now ≡ true → is_whole b.now ≡ true → Decides result (whole a.now <ℤ whole b.now) }
+{
+    if head(a) == b'-' {
+        if head(b) == b'-' {
+            return is_less(behind(b), behind(a));
+        }
+        return true;
     }
-    if a_negative || b_negative {
-        return a_negative;
+    if head(b) == b'-' {
+        return false;
     }
-    order_of(a, b) == Ordering::Less
+    is_less(a, b)
 }
 
-/// Where the word that begins at a place ends: at the next space or LF, or at the line's end.
-pub fn word_end(line: &[u8], from: usize) -> usize
-    requires { from ≤ length line.now }
-    ensures from { from ≤ result }
-    ensures within { result ≤ length line.now }
+// ---- words of a line
+/// How long the word is that a text begins with.
+#[tactic(auto, using(crate::proofs::Numbers::cutting))]
+fn word_len(text: &[u8]) -> usize
+    ensures within { result ≤ length text.now }
+    ensures word { take result text.now ≡ first_word text.now }
+    ensures rest { drop result text.now ≡ after_word text.now }
 {
-    for at in from..line.len() {
-        if line[at] == b' ' || line[at] == b'\n' {
+    for at in 0..text.len() {
+        if text[at] <= 32 {
             return at;
         }
     }
-    line.len()
+    text.len()
 }
 
-/// Whether a space stands at a place of the line.
-pub fn has_space(line: &[u8], at: usize) -> bool
-    ensures { result ≡ true → at < length line.now }
+/// The word after a space.
+pub fn next_word(text: &[u8]) -> &[u8]
+    ensures { result.now ≡ first_word (drop 1 text.now) }
 {
-    at < line.len() && line[at] == b' '
+    let text = behind(text);
+    up_to(text, word_len(text))
 }
 
-/// Whether the words of a line end at a place, with LF or with the text.
-pub fn ends_at(line: &[u8], at: usize) -> bool {
-    at >= line.len() || line[at] == b'\n'
+/// What follows the word after a space.
+pub fn rest_after(text: &[u8]) -> &[u8]
+    ensures { result.now ≡ after_word (drop 1 text.now) }
+{
+    let text = behind(text);
+    from(text, word_len(text))
+}
+
+/// Whether the text begins with a space.
+pub fn has_space(text: &[u8]) -> bool
+    ensures { result ≡ nat_eq (first text.now) 32 }
+{
+    head(text) == b' '
+}
+
+/// Whether the text is the end of a line.
+pub fn is_end(text: &[u8]) -> bool
+    ensures { Decides result (text.now ≡ 10 ∷ []) }
+{
+    text == b"\n".as_slice()
 }

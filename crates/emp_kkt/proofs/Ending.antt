@@ -21,7 +21,7 @@ use Rattle.emp_kkt.specs.declared.asked.Item.TheVariants.{Goal}
 use Rattle.emp_kkt.specs.declared.make.KktFault.{KktFault}
 use Rattle.emp_kkt.specs.declared.make.KktFault.TheVariants.{TooLarge, WideRow, NoMemory}
 use Rattle.emp_kkt.specs.Items.{shape, base_of, leader_goal, asked, items, asked_kinds, asked_pairs}
-use Rattle.emp_kkt.specs.Over.{IsMultipleOver, IsObjectiveOver, AreMultiplesOver}
+use Rattle.emp_quantities.specs.Over.{IsMultipleOver, IsObjectiveOver, AreMultiplesOver}
 use Rattle.emp_kkt.specs.Gives.{KktGives, IsFit, Fits, base_count, IsWideItem, AreMadeOf, IsGoalMade, goal_items, numbered, IsFirstWide, IsKkt}
 use Rattle.emp_kkt.specs.Making.{IsLayout, AreRows, RowsGive, IsObjectiveRow, HasLeader, ObjectiveGives}
 use Rattle.emp_kkt.proofs.Shapes.{base_same}

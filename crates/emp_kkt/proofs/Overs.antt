@@ -31,12 +31,13 @@ use Rattle.emp_kkt.specs.declared.asked.Item.TheVariants.{Low, High, Slope, Rais
 use Rattle.emp_kkt.specs.Items.{shape, place_of, no_lin, no_part, no_rule, part_at, own_at, rule_at, leader_rules, leader_goal}
 use Rattle.emp_kkt.specs.Cells.{unit_frac, signed_frac, lin_cell, RuleBy, RuleGives, ChargesGive, SlopeGives, RaisedBy, CellGives, slope_constant, constant_of}
 use Rattle.emp_kkt.specs.Gives.{IsFit, IsMadeOf, AreMadeOf}
-use Rattle.emp_kkt.specs.Over.{IsMultipleOver, AreMultiplesOver}
+use Rattle.emp_quantities.specs.Over.{IsMultipleOver, AreMultiplesOver}
 use Rattle.emp_kkt.specs.Making.{PurposeFits}
 use Rattle.emp_kkt.proofs.Shapes.{base_same, range_place_same, multiplier_place_same}
 use Rattle.emp_kkt.proofs.Meeting.{function_of, signed_row, slope, own_place, item_row}
 use Rattle.emp_kkt.proofs.Values.{firsts, AreOver, IsValue, made_over, firsts_dot}
-use Rattle.emp_kkt.proofs.Weights.{weight_low, weight_high, weight_above, range_weight, coordinates_are, multiplier_counts_once, multiplier_is_no_range, W}
+use Rattle.emp_quantities.proofs.Weights.{weight_high}
+use Rattle.emp_kkt.proofs.Weights.{weight_low, weight_above, range_weight, coordinates_are, multiplier_counts_once, multiplier_is_no_range, W}
 use Rattle.emp_kkt.proofs.Columns.{zero_quotient, zero_over, signed_quotient, signed_cell, signed_constant, signed_times, cell-add_rows, unit_by, unit_turned, whole_quotient, lin_over, lin_past, lin_at_place, function_past, FlowFits, start_over, constant_over}
 use Rattle.emp_kkt.proofs.Within.{SlopeIn, RaisedIn, ItemIn}
 

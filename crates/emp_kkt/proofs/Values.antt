@@ -11,8 +11,9 @@ use Rattle.emp_num.specs.declared.frac.Frac.{Frac}
 use Rattle.emp_rows.specs.declared.affine.Affine.{Affine}
 use Rattle.emp_rows.specs.Primitive.{made, weighted_sum, IsMultiple}
 use Rattle.emp_rows.proofs.Multiples.{made_multiple}
-use Rattle.emp_conditions.specs.Base.{Base, range, multiplier}
-use Rattle.emp_kkt.specs.Over.{raised}
+use Rattle.emp_conditions.specs.Base.{Base}
+use Rattle.emp_quantities.specs.Over.{raised}
+use Rattle.emp_quantities.proofs.Weights.{weight, over_cell}
 
 -- ---- products cell by cell
 none_dot : (r ys : List ℤ) → ((i : ℕ) → cell r i *ℤ cell ys i ≡ pos 0) → dot r ys ≡ pos 0
@@ -100,48 +101,6 @@ made_over cells constant q D C a e above h k = record {
 
     at : (d : ℤ) → pos 0 <ℤ d → (xs : List ℤ) → (m.bottom *ℤ D) *ℤ (q.constant *ℤ d +ℤ dot q.cells xs) ≡ m.top *ℤ (C *ℤ d +ℤ dot (firsts (length cells) a) xs)
     at d p xs = value_step (q.constant *ℤ d +ℤ dot q.cells xs) m.bottom m.top D d C (dot (firsts (length cells) a) xs) constant.num constant.den (weighted_sum cells d xs).bottom (weighted_sum cells d xs).top (mul_pos constant.den (weighted_sum cells d xs).bottom constant.positive (bottom_above cells d xs p)) (m.equal (record { den = d; nums = xs; positive = p })) k (sum_over D d cells a xs h)
-
--- ---- the numbers of ranges times n
-abbrev pub extra_weight : ℤ → List Base → ℕ → ℤ
-extra_weight n [] i = pos 1
-extra_weight n (range j k ∷ bs) zero = n
-extra_weight n (multiplier j e ∷ bs) zero = pos 1
-extra_weight n (b ∷ bs) (suc i) = extra_weight n bs i
-
--- of base variable i, where the extras stand behind c others
-abbrev pub weight : ℤ → ℕ → List Base → ℕ → ℤ
-weight n zero bs i = extra_weight n bs i
-weight n (suc c) bs zero = pos 1
-weight n (suc c) bs (suc i) = weight n c bs i
-
-one_times : (z : ℤ) → z ≡ pos 1 *ℤ z
-one_times z = by_ring (z ∷ []) (var 0) (lit (pos 1) ⊗ var 0) refl
-
-raised_cell : (n : ℤ) (bs : List Base) (xs : List ℤ) (i : ℕ) → cell (raised n bs xs) i ≡ extra_weight n bs i *ℤ cell xs i
-raised_cell n [] xs i = one_times (cell xs i)
-raised_cell n (range j k ∷ bs) [] zero = sym (*ℤ-zero n)
-raised_cell n (range j k ∷ bs) (x ∷ xs) zero = refl
-raised_cell n (multiplier j e ∷ bs) [] zero = refl
-raised_cell n (multiplier j e ∷ bs) (x ∷ xs) zero = one_times x
-raised_cell n (range j k ∷ bs) [] (suc i) = sym (*ℤ-zero (extra_weight n bs i))
-raised_cell n (range j k ∷ bs) (x ∷ xs) (suc i) = raised_cell n bs xs i
-raised_cell n (multiplier j e ∷ bs) [] (suc i) = sym (*ℤ-zero (extra_weight n bs i))
-raised_cell n (multiplier j e ∷ bs) (x ∷ xs) (suc i) = raised_cell n bs xs i
-
-pub over_cell : (n : ℤ) (c : ℕ) (bs : List Base) (xs : List ℤ) (i : ℕ) → cell (take c xs ++ raised n bs (drop c xs)) i ≡ weight n c bs i *ℤ cell xs i
-over_cell n zero bs xs i = raised_cell n bs xs i
-over_cell n (suc c) bs [] zero = none_left bs 0
-  where
-    none_left : (bs : List Base) (i : ℕ) → cell (raised n bs []) i ≡ pos 0
-    none_left [] i = refl
-    none_left (b ∷ bs) i = refl
-over_cell n (suc c) bs [] (suc i) = none_left bs (suc i) ∙ sym (*ℤ-zero (weight n c bs i))
-  where
-    none_left : (bs : List Base) (i : ℕ) → cell (raised n bs []) i ≡ pos 0
-    none_left [] i = refl
-    none_left (b ∷ bs) i = refl
-over_cell n (suc c) bs (x ∷ xs) zero = one_times x
-over_cell n (suc c) bs (x ∷ xs) (suc i) = over_cell n c bs xs i
 
 -- no cell past the end
 pub past_end : (xs : List ℤ) (i : ℕ) → length xs ≤ i → cell xs i ≡ pos 0

@@ -1,5 +1,5 @@
 -- The base variables that are ranges, whose numbers are taken times n, and those that are not.
-use Rattle.std.proofs.Common.{◌≡◌, ℕ, zero, suc, ◌+◌, ◌<◌, ℤ, pos, ◌<ℤ◌, Bool, true, false, cond, ◌&&◌, List, [], ◌∷◌, length, map, Option, Some, None, refl, ap, subst, ◌∙◌, arith, nat_eq}
+use Rattle.std.proofs.Common.{◌≡◌, ℕ, zero, suc, ◌+◌, ◌<◌, ℤ, pos, ◌<ℤ◌, Bool, true, false, cond, ◌&&◌, List, [], ◌∷◌, length, map, Option, Some, None, refl, subst, ◌∙◌, arith, nat_eq}
 use Rattle.std.specs.List.{All}
 use Rattle.std.proofs.lemmas.Int.{ints}
 use Rattle.std.proofs.lemmas.List.Elements.{All-head, All-tail}
@@ -12,16 +12,12 @@ use Rattle.emp_conditions.specs.Base.{Base, range, multiplier, base_slots, index
 use Rattle.emp_problem.specs.declared.problem.AgentProblem.{AgentProblem}
 use Rattle.emp_problem.specs.Problem.{game}
 use Rattle.emp_kkt.specs.Items.{shape, place_of}
-use Rattle.emp_kkt.proofs.Values.{extra_weight, weight}
+use Rattle.emp_quantities.proofs.Weights.{extra_weight, weight, weight_high, multiplier_weight}
 
 pub weight_low : (n : ℤ) (c : ℕ) (bs : List Base) (i : ℕ) → i < c → weight n c bs i ≡ pos 1
 weight_low n zero bs i h = absurd (omega (arith, h))
 weight_low n (suc c) bs zero h = refl
 weight_low n (suc c) bs (suc i) h = weight_low n c bs i (omega (arith, h))
-
-pub weight_high : (n : ℤ) (c : ℕ) (bs : List Base) (m : ℕ) → weight n c bs (c + m) ≡ extra_weight n bs m
-weight_high n zero bs m = ap (extra_weight n bs) (let z : 0 + m ≡ m = omega arith in z)
-weight_high n (suc c) bs m = ap (weight n (suc c) bs) (let z : suc c + m ≡ suc (c + m) = omega arith in z) ∙ weight_high n c bs m
 
 extra_above : (n : ℤ) (bs : List Base) (i : ℕ) → pos 0 <ℤ n → pos 0 <ℤ extra_weight n bs i
 extra_above n [] i h = omega (arith, ints)
@@ -34,15 +30,6 @@ pub weight_above : (n : ℤ) (c : ℕ) (bs : List Base) (i : ℕ) → pos 0 <ℤ
 weight_above n zero bs i h = extra_above n bs i h
 weight_above n (suc c) bs zero h = omega (arith, ints)
 weight_above n (suc c) bs (suc i) h = weight_above n c bs i h
-
-pub multiplier_weight : (n : ℤ) (h e : ℕ) (bs : List Base) → extra_weight n bs (index_base (multiplier h e) bs) ≡ pos 1
-multiplier_weight n h e [] = refl
-multiplier_weight n h e (range j k ∷ bs) = multiplier_weight n h e bs
-multiplier_weight n h e (multiplier i f ∷ bs) = go (multiplier_weight n h e bs) (nat_eq i h && nat_eq f e)
-  where
-    go : extra_weight n bs (index_base (multiplier h e) bs) ≡ pos 1 → (t : Bool) → extra_weight n (multiplier i f ∷ bs) (cond t 0 (suc (index_base (multiplier h e) bs))) ≡ pos 1
-    go rest true = refl
-    go rest false = rest
 
 pub range_weight : (n : ℤ) (j k : ℕ) (bs : List Base) → index_base (range j k) bs < length bs → extra_weight n bs (index_base (range j k) bs) ≡ n
 range_weight n j k [] l = absurd (omega (arith, l))

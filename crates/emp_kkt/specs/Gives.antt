@@ -20,7 +20,7 @@ use Rattle.emp_kkt.specs.declared.make.KktFault.{KktFault}
 use Rattle.emp_kkt.specs.declared.make.KktFault.TheVariants.{TooLarge, WideRow, NoMemory}
 use Rattle.emp_kkt.specs.Items.{shape, place_of, items}
 use Rattle.emp_kkt.specs.Cells.{AreCells, HasWideCell, constant_of}
-use Rattle.emp_kkt.specs.Over.{IsSystemOver}
+use Rattle.emp_quantities.specs.Over.{IsSystemOver}
 
 -- ---- what is asked of a problem
 abbrev pub HasFunctions : List VarId → Purpose → Type 0

@@ -8,7 +8,7 @@ use Rattle.emp_rows.specs.declared.primitive.RowFault.TheVariants as RowWords
 use Rattle.emp_rows.specs.Affine.{IsRow}
 use Rattle.std.specs.List.{All}
 use Rattle.emp_game.specs.Game.{Rule as GameRule}
-use Rattle.emp_conditions.specs.Base.{base_slots}
+use Rattle.emp_conditions.specs.Base.{base_slots, multiplier_place}
 use Rattle.emp_problem.specs.declared.problem.Rule.{Rule}
 use Rattle.emp_problem.specs.declared.problem.Purpose.{Purpose}
 use Rattle.emp_problem.specs.declared.problem.Purpose.TheVariants.{Goal as Aim, Flow}
@@ -61,6 +61,21 @@ ItemFits pr (Row j i turned) = (j < length pr.blocks) × (i < length (part_at pr
 ItemFits pr (LeaderRow i turned) = i < length (leader_rules pr.leader)
 ItemFits pr Goal = Unit {0}
 ItemFits pr (Alone k turned) = Unit {0}
+
+-- the base variables of the multipliers of block j's rules
+abbrev pub bases_of : AgentProblem → ℕ → List Rule → List ℕ
+bases_of pr j rs = map (λ r. multiplier_place (shape pr) j r.equation.at) rs
+
+-- those that an item charges
+abbrev pub AreBases : AgentProblem → Item → List ℕ → Type 0
+AreBases pr (Low k a) bs = Unit {0}
+AreBases pr (High k b) bs = Unit {0}
+AreBases pr (Slope j i turned) bs = bs ≡ bases_of pr j (part_at pr j).rules
+AreBases pr (Raised j i z) bs = bs ≡ bases_of pr j (part_at pr j).rules
+AreBases pr (Row j i turned) bs = Unit {0}
+AreBases pr (LeaderRow i turned) bs = Unit {0}
+AreBases pr Goal bs = Unit {0}
+AreBases pr (Alone k turned) bs = Unit {0}
 
 -- ---- quantities
 abbrev pub CellsGive : AgentProblem → Item → ℕ → Result (List Frac) RowFault → Type 0

@@ -1,21 +1,23 @@
 //! Coefficients of what is asked, as fractions.
-ghost use Rattle.std.specs.Prelude.{◌≡◌, ◌<◌, Ok, length, slice_index_or};
+ghost use Rattle.std.specs.Prelude.{◌≡◌, ◌<◌, Ok, length, nat_eq, IfOk};
 ghost use Rattle.emp_num.specs.Whole.{whole};
-ghost use Rattle.emp_poly.specs.Quads.{square_at};
+ghost use Rattle.emp_poly.specs.Quads.{linear_at, square_at};
 ghost use Rattle.emp_kkt.specs.Items.{part_at, own_at, rule_at, leader_rules, leader_goal};
-ghost use Rattle.emp_kkt.specs.Cells.{unit_frac, signed_frac, lin_cell, TwiceGives, PartialGives, PurposeGives, StartGives, RuleGives, ChargesGive, SlopeGives, CellGives, purpose_constant, slope_constant, constant_of};
-ghost use Rattle.emp_kkt.specs.Making.{IsLayout, ItemFits, PurposeFits};
+ghost use Rattle.emp_kkt.specs.Cells.{unit_frac, signed_frac, lin_cell, TwiceGives, PartialGives, PurposeGives, StartGives, RuleBy, ChargesGive, SlopeGives, CellGives, purpose_constant, slope_constant, constant_of};
+ghost use Rattle.emp_kkt.specs.Making.{IsLayout, ItemFits, PurposeFits, bases_of, AreBases};
 ghost use Rattle.emp_kkt.specs.declared.asked.Item.TheVariants.{Slope as ASlope, Raised as ARaised};
 
 use crate::asked::Item;
 use crate::extras::{Extra, multiplier_base};
 use emp_ast::tree::VarId;
 use emp_expand::coefficients::zero;
+use emp_list::seq::Seq;
 use emp_num::exact::Wide;
 use emp_num::frac::Frac;
 use emp_poly::gradient::{linear_of, square_of};
 use emp_poly::quad::{Lin, Quad};
 use emp_problem::problem::{AgentProblem, BlockPart, Purpose, Rule};
+use std::alloc::{AllocError, Global};
 
 // ---- fractions
 /// The number 1.
@@ -113,43 +115,34 @@ fn start_cell(problem: &AgentProblem, part: &BlockPart, own: usize, at: usize) -
     }
 }
 
-/// The coefficient less that of the rule's multiplier, where the base variable is this.
-fn charge(
-    problem: &AgentProblem,
-    extras: &[Extra],
-    block: usize,
-    rule: &Rule,
-    by: VarId,
-    at: usize,
-    cell: Frac,
-) -> Result<Frac, Wide>
-    requires layout { IsLayout problem.now extras.now }
-    ensures { RuleGives problem.now block by.at at rule.now cell result }
+/// The coefficient less that of the rule's multiplier, where this is its base variable.
+fn charge(rule: &Rule, base: usize, by: VarId, at: usize, cell: Frac) -> Result<Frac, Wide>
+    ensures { RuleBy (nat_eq base at) (linear_at rule.now.row.linear by.at) cell result }
 {
-    if multiplier_base(problem, extras, block, rule.equation.at) == at {
+    if base == at {
         Frac::sub(cell, linear_of(rule.row.linear.as_slice(), by))
     } else {
         Ok(cell)
     }
 }
 
-/// The coefficient less those of all multipliers of the block, rule by rule.
+/// The coefficient less those of all multipliers of the block, rule by rule; `bases` has their base variables.
 #[tactic(auto, using(crate::proofs::Turning::charging))]
 fn charged(
     problem: &AgentProblem,
-    extras: &[Extra],
     block: usize,
+    bases: &[usize],
     rules: &[Rule],
     by: VarId,
     at: usize,
     start: Frac,
 ) -> Result<Frac, Wide>
-    requires layout { IsLayout problem.now extras.now }
+    requires bases { bases.now ≡ bases_of problem.now block rules.now }
     ensures { ChargesGive problem.now block by.at at rules.now start result }
 {
     let mut cell = start;
     for k in 0..rules.len() {
-        cell = charge(problem, extras, block, &rules[k], by, at, cell)?;
+        cell = charge(&rules[k], bases[k], by, at, cell)?;
     }
     Ok(cell)
 }
@@ -158,57 +151,58 @@ fn charged(
 #[tactic(auto, using(crate::proofs::Turning::sloping))]
 fn slope_cell(
     problem: &AgentProblem,
-    extras: &[Extra],
     block: usize,
+    bases: &[usize],
     part: &BlockPart,
     own: usize,
     at: usize,
 ) -> Result<Frac, Wide>
-    requires layout { IsLayout problem.now extras.now }
+    requires bases { bases.now ≡ bases_of problem.now block part.now.rules }
     requires own { own < length part.now.own }
     requires purpose { PurposeFits part.now.purpose own }
     ensures { SlopeGives problem.now block part.now own at result }
 {
     let start = start_cell(problem, part, own, at)?;
     let by = *part.own.get(own);
-    charged(problem, extras, block, part.rules.as_slice(), by, at, start)
+    charged(problem, block, bases, part.rules.as_slice(), by, at, start)
 }
 
 /// The coefficient so, or its opposite.
 fn signed_slope_cell(
     problem: &AgentProblem,
-    extras: &[Extra],
+    bases: &[usize],
     block: usize,
     own: usize,
     turned: bool,
     at: usize,
 ) -> Result<Frac, Wide>
-    requires layout { IsLayout problem.now extras.now }
+    requires bases { AreBases problem.now (ASlope block own turned) bases.now }
     requires fits { ItemFits problem.now (ASlope block own turned) }
     ensures { CellGives problem.now (ASlope block own turned) at result }
 {
-    let cell = slope_cell(problem, extras, block, problem.blocks.get(block), own, at)?;
+    let part = problem.blocks.get(block);
+    let cell = slope_cell(problem, block, bases, part, own, at)?;
     Ok(signed(turned, cell))
 }
 
 /// The coefficient of a base variable in the derivative plus another base variable.
 fn raised_cell(
     problem: &AgentProblem,
-    extras: &[Extra],
+    bases: &[usize],
     block: usize,
     own: usize,
     base: usize,
     at: usize,
 ) -> Result<Frac, Wide>
-    requires layout { IsLayout problem.now extras.now }
+    requires bases { AreBases problem.now (ARaised block own base) bases.now }
     requires fits { ItemFits problem.now (ARaised block own base) }
     ensures { CellGives problem.now (ARaised block own base) at result }
 {
     if at == base {
-        Ok(one())
-    } else {
-        slope_cell(problem, extras, block, problem.blocks.get(block), own, at)
+        return Ok(one());
     }
+    let part = problem.blocks.get(block);
+    slope_cell(problem, block, bases, part, own, at)
 }
 
 // ---- rows
@@ -254,14 +248,58 @@ fn goal_cell(problem: &AgentProblem, at: usize) -> Frac
     }
 }
 
-/// The coefficient of a base variable. `Wide` where a number that is formed for it is.
-pub fn item_cell(
+// ---- items
+/// The base variables of the multipliers of a block's rules.
+#[tactic(auto, using(crate::proofs::Turning::listing))]
+fn block_bases(
+    alloc: Global,
+    problem: &AgentProblem,
+    extras: &[Extra],
+    block: usize,
+    part: &BlockPart,
+) -> Result<Seq<usize>, AllocError>
+    requires layout { IsLayout problem.now extras.now }
+    ensures { IfOk result (λ out. out ≡ bases_of problem.now block part.now.rules) }
+{
+    let mut out = Seq::new(alloc);
+    for at in 0..part.rules.len() {
+        let equation = part.rules.get(at).equation.at;
+        out.push(multiplier_base(problem, extras, block, equation))?;
+    }
+    Ok(out)
+}
+
+/// The base variables of the multipliers that an item charges.
+pub fn item_bases(
+    alloc: Global,
     problem: &AgentProblem,
     extras: &[Extra],
     item: Item,
+) -> Result<Seq<usize>, AllocError>
+    requires layout { IsLayout problem.now extras.now }
+    requires fits { ItemFits problem.now item }
+    ensures { IfOk result (AreBases problem.now item) }
+{
+    match item {
+        Item::Slope(block, _, _) => {
+            block_bases(alloc, problem, extras, block, problem.blocks.get(block))
+        }
+        Item::Raised(block, _, _) => {
+            block_bases(alloc, problem, extras, block, problem.blocks.get(block))
+        }
+        _ => Ok(Seq::new(alloc)),
+    }
+}
+
+/// The coefficient of a base variable, where `bases` has those of the multipliers that the item charges. `Wide` where a
+/// number that is formed for it is.
+pub fn item_cell(
+    problem: &AgentProblem,
+    bases: &[usize],
+    item: Item,
     at: usize,
 ) -> Result<Frac, Wide>
-    requires layout { IsLayout problem.now extras.now }
+    requires bases { AreBases problem.now item bases.now }
     requires fits { ItemFits problem.now item }
     ensures { CellGives problem.now item at result }
 {
@@ -269,9 +307,9 @@ pub fn item_cell(
         Item::Low(base, _) => Ok(unit(at, base)),
         Item::High(base, _) => Ok(signed(true, unit(at, base))),
         Item::Slope(block, own, turned) => {
-            signed_slope_cell(problem, extras, block, own, turned, at)
+            signed_slope_cell(problem, bases, block, own, turned, at)
         }
-        Item::Raised(block, own, base) => { raised_cell(problem, extras, block, own, base, at) }
+        Item::Raised(block, own, base) => { raised_cell(problem, bases, block, own, base, at) }
         Item::Row(block, rule, turned) => {
             Ok(signed(turned, rule_cell(problem, block, rule, at)))
         }

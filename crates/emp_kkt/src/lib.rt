@@ -2,7 +2,7 @@
 //!
 //! `make` gives it. `specs/Items.antt` says which quantities are asked, `specs/Cells.antt` what their coefficients are as
 //! fractions, and `specs/Gives.antt` each outcome: the system is that of the problem's game over each number that the
-//! fractions are over (`specs/Over.antt`).
+//! fractions are over (`specs/Over.antt` of `emp_quantities`).
 #![tactic(auto)]
 
 pub mod asked;

@@ -80,7 +80,7 @@ fn system_of(
 }
 
 /// The row system of a problem: its row points are the points of the problem's game together with its multipliers and the
-/// numbers of its ranges, as `IsSystemOver` of `specs/Over.antt` says it.
+/// numbers of its ranges, as `IsSystemOver` of `specs/Over.antt` of `emp_quantities` says it.
 ///
 /// `TooLarge` exactly where there would be more than 256 base variables or 512 quantities. `WideRow` exactly where there are
 /// not, and names the first quantity in which a number that is formed is wide, as `IsFirstWide` of `specs/Gives.antt` says it.

@@ -6,7 +6,7 @@ ghost use Rattle.emp_kkt.specs.declared.asked.Item.TheVariants.{Goal as AGoal};
 ghost use Rattle.emp_kkt.specs.Making.{IsLayout, ItemFits, CellsGive, RowGives, RowAtGives, RowsGive, ObjectiveGives};
 
 use crate::asked::Item;
-use crate::cells::{item_cell, item_constant};
+use crate::cells::{item_bases, item_cell, item_constant};
 use crate::extras::Extra;
 use crate::make::KktFault;
 use emp_list::seq::Seq;
@@ -29,9 +29,10 @@ fn item_cells(
     requires fits { ItemFits problem.now item }
     ensures { CellsGive problem.now item base result }
 {
+    let bases = item_bases(alloc, problem, extras, item)?;
     let mut out = Seq::new(alloc);
     for at in 0..base {
-        let cell = item_cell(problem, extras, item, at)?;
+        let cell = item_cell(problem, bases.as_slice(), item, at)?;
         out.push(cell)?;
     }
     Ok(out)

@@ -1,3 +1,4 @@
 pub mod Over
 pub mod Numbering
 pub mod Reforms
+pub mod Weights

@@ -1,27 +1,17 @@
-use Rattle.std.proofs.Common.{rules, ◌≡◌, ◌≢◌, ◌<◌, ◌≤◌, ◌∷◌, true, false, length, IfOk, ℕ, ◌+◌, ◌-◌, ◌*◌, ◌/◌, ◌%◌, Bool, nat_eq, nat_lt, List, [], ◌++◌, slice_index_or, slice_set, bit_and, bit_or, Fits, w8, w32, w64, Bor, MutBor}
-use Rattle.emp_command.specs.Course.{refusal}
+use Rattle.std.proofs.Common.{sym, ◌∙◌, subst, ap}
 use Rattle.emp_command.specs.Requests.{asked_of, word_of}
-use Rattle.gms_print.specs.ReadsBack.{HasText}
-use Rattle.gms_grammar.specs.declared.fault.ModelFault.TheVariants as model_words
-use Rattle.info_read.specs.declared.fault.InfoFault.TheVariants as info_words
-use Rattle.emp_problem.specs.Class.{AnnotFits, GoalFits}
-use Rattle.emp_lines.specs.TextLines.{not_yet_line, model_line, info_line}
-use Rattle.emp_answers.specs.Answers.{Answers, Does, is_built}
-use Rattle.emp_answers.specs.Outcomes.{outcome_of, Prints, OverInfo, AreTexts, RestFits, OutputFits}
+use Rattle.emp_answers.specs.Outcomes.{RestFits}
+use Rattle.emp_answers.proofs.Answering.{print_does, solve_does, check_does, migrate_does}
 use Rattle.emp_answers.proofs.answer.over_model.Goals as goal
 
--- src/answer.rt:59:1
 pub returns-in-Print : goal.returns-in-Print
-returns-in-Print c = ?
+returns-in-Print c = print_does c.print.result c.args.model.now c.args.annot.now (asked_of c.args.request.now) c.args.rest.now c.in-Print.is (subst (λ v. RestFits v c.args.rest.now) c.in-Print.is c.requires.rest) c.print.ensures
 
--- src/answer.rt:59:1
 pub returns-in-Solve : goal.returns-in-Solve
-returns-in-Solve c = ?
+returns-in-Solve c = solve_does c.solve.result c.args.model.now c.args.annot.now (asked_of c.args.request.now) c.args.rest.now c.in-Solve.is (subst (λ v. RestFits v c.args.rest.now) c.in-Solve.is c.requires.rest) c.solve.ensures
 
--- src/answer.rt:59:1
 pub returns-in-Check : goal.returns-in-Check
 returns-in-Check c = ?
 
--- src/answer.rt:59:1
 pub returns-in-Some : goal.returns-in-Some
 returns-in-Some c = ?

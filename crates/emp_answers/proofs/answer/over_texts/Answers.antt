@@ -1,19 +1,9 @@
-use Rattle.std.proofs.Common.{rules, ◌≡◌, ◌≢◌, ◌<◌, ◌≤◌, ◌∷◌, true, false, length, IfOk, ℕ, ◌+◌, ◌-◌, ◌*◌, ◌/◌, ◌%◌, Bool, nat_eq, nat_lt, List, [], ◌++◌, slice_index_or, slice_set, bit_and, bit_or, Fits, w8, w32, w64, Bor, MutBor}
-use Rattle.emp_command.specs.Course.{refusal}
 use Rattle.emp_command.specs.Requests.{asked_of, word_of}
-use Rattle.gms_print.specs.ReadsBack.{HasText}
-use Rattle.gms_grammar.specs.declared.fault.ModelFault.TheVariants as model_words
-use Rattle.info_read.specs.declared.fault.InfoFault.TheVariants as info_words
-use Rattle.emp_problem.specs.Class.{AnnotFits, GoalFits}
-use Rattle.emp_lines.specs.TextLines.{not_yet_line, model_line, info_line}
-use Rattle.emp_answers.specs.Answers.{Answers, Does, is_built}
-use Rattle.emp_answers.specs.Outcomes.{outcome_of, Prints, OverInfo, AreTexts, RestFits, OutputFits}
+use Rattle.emp_answers.proofs.Answering.{model_answer, text_answer}
 use Rattle.emp_answers.proofs.answer.over_texts.Goals as goal
 
--- src/answer.rt:129:1
 pub returns-in-Ok : goal.returns-in-Ok
-returns-in-Ok c = ?
+returns-in-Ok c = text_answer c.over_info.result (asked_of c.args.request.now) c.args.rest.now c.args.model.now c.args.info.now c.in-Ok.model c.requires.built c.in-Ok.ensures c.over_info.ensures
 
--- src/answer.rt:129:1
 pub returns-in-Err : goal.returns-in-Err
-returns-in-Err c = ?
+returns-in-Err c = model_answer c.model_refusal.result (asked_of c.args.request.now) c.args.rest.now c.args.model.now c.args.info.now c.in-Err.fault c.requires.built c.in-Err.ensures c.model_refusal.ensures

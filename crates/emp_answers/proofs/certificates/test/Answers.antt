@@ -1,17 +1,9 @@
-use Rattle.std.proofs.Common.{rules, ◌≡◌, ◌<◌, ◌≤◌, List, ℕ, length, map, IfOk, ◌+◌, ◌-◌, ◌*◌, ◌/◌, ◌%◌, Bool, true, false, nat_eq, nat_lt, [], ◌∷◌, ◌++◌, slice_index_or, slice_set, bit_and, bit_or, Fits, w8, w32, w64, Bor, MutBor}
-use Rattle.emp_command.specs.Requests.{asked_of}
-use Rattle.emp_problem.specs.Class.{AnnotFits, GoalFits}
-use Rattle.emp_cert_text.specs.Text.{cert_text}
-use Rattle.emp_check.specs.Checks.{SizesAre}
-use Rattle.emp_command.specs.Deliveries.{stored_of}
-use Rattle.emp_answers.specs.Answers.{Checks, Migrates}
-use Rattle.emp_answers.specs.Outcomes.{outcome_of, IsReady, AcceptGives, StoredAnew}
+use Rattle.std.proofs.Common.{refl}
+use Rattle.emp_answers.proofs.Certifying.{rejected_tried, wide_tried}
 use Rattle.emp_answers.proofs.certificates.test.Goals as goal
 
--- src/certificates.rt:36:1
 pub returns-in-Rejected : goal.returns-in-Rejected
-returns-in-Rejected c = ?
+returns-in-Rejected c ct t = rejected_tried c.args.model.now c.args.annot.now ct c.args.ready.stated c.args.cert c.in-Rejected.node c.in-Rejected.why _ c.requires.stated t (c.check.ensures.exact) c.rejected_line.ensures
 
--- src/certificates.rt:36:1
 pub returns-in-Wide : goal.returns-in-Wide
-returns-in-Wide c = ?
+returns-in-Wide c ct t = ?

@@ -1,14 +1,6 @@
-use Rattle.std.proofs.Common.{rules, ◌≡◌, ◌≢◌, ◌<◌, map, length, IfOk, IfErr, Some, ℕ, ◌+◌, ◌-◌, ◌*◌, ◌≤◌, ◌/◌, ◌%◌, Bool, true, false, nat_eq, nat_lt, List, [], ◌∷◌, ◌++◌, slice_index_or, slice_set, bit_and, bit_or, Fits, w8, w32, w64, Bor, MutBor}
-use Rattle.emp_command.specs.Deliveries.{stored_of}
-use Rattle.emp_command.specs.Course.{refusal}
 use Rattle.emp_command.specs.Requests.{asked_of, word_of}
-use Rattle.emp_problem.specs.Class.{AnnotFits, GoalFits}
-use Rattle.emp_walk.specs.Founds.{CertGives, FoundGives}
-use Rattle.emp_walk.specs.declared.fault.WalkFault.TheVariants as walk_words
-use Rattle.emp_answers.specs.Answers.{Solves, walk_status, walk_line, cert_stores, CertFits}
-use Rattle.emp_answers.specs.Outcomes.{outcome_of, report_of, Delivered, IsReady, StoresFail}
+use Rattle.emp_answers.proofs.Solving.{refused_answer}
 use Rattle.emp_answers.proofs.solve.solve.Goals as goal
 
--- src/solve.rt:137:1
 pub returns-in-Err : goal.returns-in-Err
-returns-in-Err c = ?
+returns-in-Err c = refused_answer c.refusal_of.result c.args.model.now c.args.annot.now (asked_of c.args.request.now) (c.refusal_of.ensures c.args.annot.now c.in-Err.ensures)

@@ -1,10 +1,9 @@
-use Rattle.std.proofs.Common.{◌≡◌, ◌-◌, length}
-use Rattle.std.specs.List.{All}
-use Rattle.emp_num.specs.Exact.{IsNarrow}
+use Rattle.std.proofs.Common.{length}
+use Rattle.emp_cert_text.proofs.Factors.{FactorReading}
 use Rattle.emp_cert_text.proofs.lines.sparse_in.Given as goal
 
 abbrev pub invariant-loop-before : goal.invariant-loop-before
-invariant-loop-before l = record { count : length l.out ≡ l.count; narrow : All IsNarrow l.out }
+invariant-loop-before l = FactorReading l.count l.text l.rest l.before l.out l.outside
 
 abbrev pub decreases-loop-before : goal.decreases-loop-before
-decreases-loop-before l = length l.text - l.at
+decreases-loop-before l = length l.rest

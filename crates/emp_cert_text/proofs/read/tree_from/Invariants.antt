@@ -1,6 +1,9 @@
-use Rattle.std.proofs.Common.{◌≡◌, ◌++◌, ◌+◌, ◌-◌, ◌≤◌, length, drop, All}
+use Rattle.std.proofs.Common.{◌≡◌, ◌++◌, ◌+◌, ◌-◌, ◌≤◌, ◌∷◌, ℕ, List, length, drop, All}
 use Rattle.emp_cert.specs.Certs.{NodeFits}
 use Rattle.emp_cert_text.specs.Text.{nodes_text}
+use Rattle.emp_cert_text.specs.Course.{Part, head_of, trees_before}
+use Rattle.emp_cert_text.specs.Course.Part.{tree}
+use Rattle.emp_cert_text.specs.Reading.{IsAt}
 use Rattle.emp_cert_text.proofs.Reading.{Completes}
 use Rattle.emp_cert_text.proofs.read.tree_from.Given as goal
 
@@ -10,6 +13,7 @@ invariant-loop-awaited l = record {
   within : l.here.at ≤ length l.text;
   fits : All (NodeFits l.sizes.pairs l.sizes.quantities) l.nodes;
   trees : Completes l.awaited l.nodes;
+  next : (b : ℕ) (ps : List Part) → IsAt l.text (tree (head_of l.second b l.sizes.quantities l.sizes.pairs) ∷ ps) l.fn.spot → IsAt l.text (trees_before l.awaited (head_of l.second b l.sizes.quantities l.sizes.pairs) ps) l.here;
   few : l.awaited ≤ l.here.at + 1;
 }
 
