@@ -165,7 +165,7 @@ summand_leaves w c h = go (is_summand w (expression_of c.left.nodes)) refl h
     go true is k = let l = summand_leaf w (expression_of c.left.nodes) is in omega arith
     go false is k = let l = summand_leaf w (expression_of c.right.nodes) (subst (λ b. (b || is_summand w (expression_of c.right.nodes)) ≡ true) is k) in omega arith
 
-tie_leaves : (w : ℕ) (q : Equation) → ties w (Some q) ≡ true → 1 ≤ equation_leaves w q
+pub tie_leaves : (w : ℕ) (q : Equation) → ties w (Some q) ≡ true → 1 ≤ equation_leaves w q
 tie_leaves w q h = summand_leaves w q (and_parts (is_equality q.relation) (is_summand_of w q) h).1
 
 one_tie : (w : ℕ) (qs : List Equation) (e : ℕ) → ties w (slice_get qs e) ≡ true → 1 ≤ occurrences w qs

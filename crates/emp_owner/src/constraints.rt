@@ -24,7 +24,13 @@ fn is_entry(entry: Option<EquId>, e: EquId) -> bool
 
 /// Whether the equation is a constraint of the block with this definition.
 #[tactic(auto, using(crate::proofs::Tying::having))]
-pub fn constrains(annot: &Annot, block: &Block, definition: Option<EquId>, e: EquId, tied: Tied) -> bool
+pub fn constrains(
+    annot: &Annot,
+    block: &Block,
+    definition: Option<EquId>,
+    e: EquId,
+    tied: Tied,
+) -> bool
     requires tied { TellsTied annot.now.implicits e.at tied }
     ensures { result ≡ block_constrains annot.now block.now definition e.at }
 {

@@ -1,6 +1,6 @@
 -- The parts of the blocks and of the leader.
-use Rattle.std.proofs.Common.{◌≡◌, ℕ, zero, suc, ◌+◌, ◌<◌, ◌≤◌, Bool, true, false, List, [], ◌∷◌, ◌++◌, All, length, get_or, take, Option, Some, None, arith, refl, sym, ap, subst, ◌∙◌}
-use Rattle.std.specs.Prelude.{slice_get, Err, Result}
+use Rattle.std.proofs.Common.{◌≡◌, ℕ, suc, ◌+◌, ◌<◌, ◌≤◌, true, List, [], ◌∷◌, ◌++◌, length, get_or, take, Option, Some, arith, sym, ap, subst, ◌∙◌}
+use Rattle.std.specs.Prelude.{slice_get, Err}
 use Rattle.std.proofs.lemmas.List.{take_more, take_all, length-take-le}
 use Rattle.emp_ast.specs.declared.tree.VarId.{VarId}
 use Rattle.emp_ast.specs.declared.tree.EquId.{EquId}
@@ -9,12 +9,10 @@ use Rattle.emp_ast.specs.declared.model.Model.{Model}
 use Rattle.emp_ast.specs.declared.annot.Block.{Block}
 use Rattle.emp_ast.specs.declared.annot.Block.TheVariants.{Agent, Vi}
 use Rattle.emp_ast.specs.declared.annot.Annot.{Annot}
-use Rattle.emp_ast.specs.Parties.{Party, leader, block, objective, block_objective, goal_objective}
-use Rattle.emp_form.specs.Form.{Form, IsLinear}
+use Rattle.emp_ast.specs.Parties.{Party, block, objective, block_objective}
+use Rattle.emp_form.specs.Form.{Form}
 use Rattle.emp_poly.specs.Quads.{HasForm}
-use Rattle.emp_poly.specs.Gradient.{LinHasForm}
 use Rattle.emp_poly.specs.declared.quad.Quad.{Quad}
-use Rattle.emp_poly.specs.declared.quad.Lin.{Lin}
 use Rattle.emp_owner.specs.Settled.{IsDefinition}
 use Rattle.emp_agents.specs.Given.{given_form}
 use Rattle.emp_problem.specs.declared.problem.BlockPart.{BlockPart}

@@ -1,11 +1,10 @@
 -- The constraints of blocks and of the leader, as lists.
-use Rattle.std.proofs.Common.{◌≡◌, ◌≢◌, ◌⊎◌, inl, inr, ℕ, zero, suc, ◌+◌, ◌<◌, ◌≤◌, Bool, true, false, ◌&&◌, ◌||◌, not, cond, nat_eq, List, [], ◌∷◌, ◌++◌, All, length, get_or, take, map, Option, Some, None, arith, refl, sym, ap, ap₂, subst, ◌∙◌}
+use Rattle.std.proofs.Common.{◌≡◌, ℕ, zero, suc, ◌+◌, ◌<◌, ◌≤◌, Bool, true, false, ◌&&◌, not, cond, nat_eq, List, [], ◌∷◌, ◌++◌, All, length, get_or, take, map, Option, Some, arith, refl, sym, ap, ap₂, subst, ◌∙◌}
 use Rattle.std.specs.Prelude.{slice_get, filter}
-use Rattle.std.proofs.lemmas.Bool.{eq-eqb, and_parts, false≢true, or_left, or_right, cases_Bool}
+use Rattle.std.proofs.lemmas.Bool.{eq-eqb, or_left, or_right}
 use Rattle.std.proofs.lemmas.List.{take_more, take_all, append-nil}
 use Rattle.std.proofs.lemmas.List.Elements.{filter-append}
-use Rattle.std.proofs.lemmas.Option.{same_Some, slice_get_read}
-use Rattle.emp_ast.specs.declared.tree.VarId.{VarId}
+use Rattle.std.proofs.lemmas.Option.{same_Some}
 use Rattle.emp_ast.specs.declared.tree.EquId.{EquId}
 use Rattle.emp_ast.specs.declared.model.Equation.{Equation}
 use Rattle.emp_ast.specs.declared.model.Model.{Model}
@@ -18,8 +17,7 @@ use Rattle.emp_form.specs.Expansion.{form}
 use Rattle.emp_poly.specs.Quads.{HasForm}
 use Rattle.emp_poly.specs.Gradient.{LinHasForm}
 use Rattle.emp_poly.specs.declared.quad.Quad.{Quad}
-use Rattle.emp_poly.specs.declared.quad.Lin.{Lin}
-use Rattle.emp_owner.specs.Finding.{is_entry, block_constrains}
+use Rattle.emp_owner.specs.Finding.{is_entry}
 use Rattle.emp_owner.specs.Settled.{IsDefinition}
 use Rattle.emp_owner.proofs.Defining.{constrains_is}
 use Rattle.emp_owner.proofs.Lists.{get_is}
@@ -146,13 +144,15 @@ listed_fit v n (Agent s w vars equs) h = h.2
 listed_fit v n (Vi zeros pairs equs) h =
     all_append (λ e. e.at < n) (map (λ q. q.0) pairs) equs (all_map (λ q. q.0) (λ q. (q.0.at < n) × (q.1.at < v)) (λ e. e.at < n) (λ q k. k.0) pairs h.1) h.2
 
+pub equations_fit : (m : Model) (a : Annot) (b : Block) → AnnotFits m a → BlockFits (length m.variables) (length m.equations) b → EquationsFit (length m.equations) (block_equations a b)
+equations_fit m a b fits h =
+    all_append (λ e. e.at < length m.equations) (listed_equations b) (map (λ i. i.1) (filter (λ i. names_variable (block_variables b) i.0.at) a.implicits)) (listed_fit (length m.variables) (length m.equations) b h)
+    (all_map (λ i. i.1) (λ i. (i.0.at < length m.variables) × (i.1.at < length m.equations)) (λ e. e.at < length m.equations) (λ i k. k.1) (filter (λ i. names_variable (block_variables b) i.0.at) a.implicits)
+    (all_filter (λ i. (i.0.at < length m.variables) × (i.1.at < length m.equations)) (λ i. names_variable (block_variables b) i.0.at) a.implicits fits.implicits))
+
 pub rest_fit : (m : Model) (a : Annot) (b : Block) (d : Option EquId) (es : List EquId) → AnnotFits m a → BlockFits (length m.variables) (length m.equations) b → es ≡ filter (λ e. is_rest b d e.at) (block_equations a b) → EquationsFit (length m.equations) es
 rest_fit m a b d es fits h is =
-    subst (λ ys. EquationsFit (length m.equations) ys) (sym is)
-    (all_filter (λ e. e.at < length m.equations) (λ e. is_rest b d e.at) (block_equations a b)
-    (all_append (λ e. e.at < length m.equations) (listed_equations b) (map (λ i. i.1) (filter (λ i. names_variable (block_variables b) i.0.at) a.implicits)) (listed_fit (length m.variables) (length m.equations) b h)
-    (all_map (λ i. i.1) (λ i. (i.0.at < length m.variables) × (i.1.at < length m.equations)) (λ e. e.at < length m.equations) (λ i k. k.1) (filter (λ i. names_variable (block_variables b) i.0.at) a.implicits)
-    (all_filter (λ i. (i.0.at < length m.variables) × (i.1.at < length m.equations)) (λ i. names_variable (block_variables b) i.0.at) a.implicits fits.implicits))))
+    subst (λ ys. EquationsFit (length m.equations) ys) (sym is) (all_filter (λ e. e.at < length m.equations) (λ e. is_rest b d e.at) (block_equations a b) (equations_fit m a b fits h))
 
 all_there : (at n : ℕ) (qs : List Equation) → at + length qs ≤ n → EquationsFit n (all_equations at qs)
 all_there at n [] l = all_none (λ e. e.at < n)

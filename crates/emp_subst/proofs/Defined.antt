@@ -2,15 +2,15 @@
 use Rattle.std.proofs.Common.{◌≡◌, ◌≢◌, ◌⊎◌, inl, inr, ℕ, zero, suc, ◌+◌, ◌<◌, ◌≤◌, Bool, true, false, ◌&&◌, ◌||◌, not, nat_eq, List, [], ◌∷◌, length, get_or, Option, Some, None, arith, refl, sym, ap, ap₂, subst, ◌∙◌}
 use Rattle.std.specs.Prelude.{slice_get}
 use Rattle.std.specs.List.{list_any}
-use Rattle.std.proofs.lemmas.Bool.{eq-eqb, ne_eqb, and_parts, and_from, or_left, or_right, cases_eq, cases_lt, false≢true}
+use Rattle.std.proofs.lemmas.Bool.{eq-eqb, ne_eqb, and_parts, or_left, or_right, cases_eq, false≢true}
 use Rattle.emp_ast.specs.declared.tree.EquId.{EquId}
 use Rattle.emp_ast.specs.declared.model.Equation.{Equation}
 use Rattle.emp_ast.specs.declared.model.Sense.{Sense}
 use Rattle.emp_ast.specs.declared.model.Model.{Model}
 use Rattle.emp_ast.specs.declared.annot.Block.{Block}
 use Rattle.emp_ast.specs.declared.annot.Annot.{Annot}
-use Rattle.emp_ast.specs.Parties.{Party, leader, block, names_equation, equations, objective, block_objective, goal_objective, can_define, has_alone, holders, ties, defines_by, defines, is_defined_by, is_defined_of, some_block_defines, is_defined, is_constraint, some_block_has, all_equations}
-use Rattle.emp_owner.specs.Finding.{is_entry, block_constrains}
+use Rattle.emp_ast.specs.Parties.{Party, leader, block, names_equation, equations, objective, block_objective, goal_objective, can_define, has_alone, holders, ties, defines_by, defines, is_defined_by, is_defined_of, some_block_defines, is_constraint, some_block_has}
+use Rattle.emp_owner.specs.Finding.{is_entry}
 use Rattle.emp_owner.specs.Settled.{IsDefinition, IsLeaderDefinition, AreDefinitions}
 use Rattle.emp_owner.proofs.Defining.{two_ties, can_tie, leader_named, number_there, constrains_at}
 use Rattle.emp_owner.proofs.Lists.{get_is}

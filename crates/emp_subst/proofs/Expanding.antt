@@ -1,7 +1,6 @@
 -- The differences so far, and the first quadratic coefficient of a polynomial.
-use Rattle.std.proofs.Common.{◌≡◌, ◌≢◌, ◌⊎◌, inl, inr, ℕ, zero, suc, ◌+◌, ◌<◌, ◌≤◌, ℤ, pos, ◌*ℤ◌, ◌<ℤ◌, true, cond, ◌||◌, List, [], ◌∷◌, ◌++◌, map, length, get_or, length-append, arith, refl, sym, ap, subst, ◌∙◌, Some}
-use Rattle.std.specs.Prelude.{nat_eq, slice_get, Err}
-use Rattle.std.specs.List.{list_any}
+use Rattle.std.proofs.Common.{◌≡◌, ◌≢◌, ◌⊎◌, inl, inr, ℕ, zero, suc, ◌+◌, ◌<◌, ◌≤◌, ℤ, pos, ◌*ℤ◌, ◌<ℤ◌, true, cond, List, [], ◌∷◌, ◌++◌, length, get_or, length-append, arith, refl, sym, ap, subst, ◌∙◌, Some}
+use Rattle.std.specs.Prelude.{slice_get, Err}
 use Rattle.std.proofs.lemmas.Bool.{false≢true}
 use Rattle.std.proofs.lemmas.Option.{same_Some, slice_get_read}
 use borrow.Author.Count.{below_more}
@@ -12,12 +11,10 @@ use Rattle.emp_num.specs.FracSpec.{IsQuotient}
 use Rattle.emp_num.specs.Whole.{whole}
 use Rattle.emp_num.specs.declared.frac.Frac.{Frac}
 use Rattle.emp_ast.specs.declared.tree.VarId.{VarId}
-use Rattle.emp_ast.specs.declared.tree.EquId.{EquId}
 use Rattle.emp_ast.specs.declared.tree.Tree.{Tree}
 use Rattle.emp_ast.specs.declared.model.Equation.{Equation}
 use Rattle.emp_ast.specs.declared.model.Model.{Model}
 use Rattle.emp_ast.specs.declared.annot.Annot.{Annot}
-use Rattle.emp_ast.specs.Parties.{names_equation}
 use Rattle.emp_form.specs.Form.{Form, IsLinear}
 use Rattle.emp_form.specs.Expansion.{form}
 use Rattle.emp_poly.specs.Terms.{is_not_zero, is_square_from, is_square}
@@ -166,4 +163,3 @@ quadratic_here m a ds n d u v within expanded are is before function square = go
 
 pub all_linear : (m : Model) (a : Annot) (n : ℕ) → length m.equations ≤ n → LinearBefore m a n → AllLinear m a
 all_linear m a n l before = λ e q k at f. before e q (omega arith) at f
-

@@ -1,8 +1,7 @@
 -- The functions of variational inequalities, one by one.
-use Rattle.std.proofs.Common.{◌≡◌, ℕ, suc, zero, ◌+◌, ◌<◌, ◌≤◌, pos, List, [], ◌∷◌, ◌++◌, All, length, get_or, take, map, Option, Some, None, arith, refl, sym, ap, subst, ◌∙◌, append_assoc}
+use Rattle.std.proofs.Common.{◌≡◌, ℕ, suc, zero, ◌+◌, ◌<◌, ◌≤◌, pos, List, [], ◌∷◌, ◌++◌, length, get_or, take, map, Option, Some, None, arith, refl, sym, ap, subst, ◌∙◌, append_assoc}
 use Rattle.std.specs.Prelude.{slice_get}
 use Rattle.std.proofs.lemmas.List.{take_more, take_all, map-append}
-use Rattle.std.proofs.lemmas.Option.{same_Some}
 use Rattle.emp_ast.specs.declared.tree.VarId.{VarId}
 use Rattle.emp_ast.specs.declared.tree.EquId.{EquId}
 use Rattle.emp_ast.specs.declared.model.Equation.{Equation}

@@ -1,5 +1,5 @@
 -- Folds over values that are 0 past their end.
-use Rattle.std.proofs.Common.{◌≡◌, ℕ, zero, suc, ◌+◌, ◌<◌, ◌≤◌, List, [], ◌∷◌, ◌++◌, length, get_or, take, drop, arith, refl, sym, ap, ap₂, subst, ◌∙◌}
+use Rattle.std.proofs.Common.{◌≡◌, ℕ, zero, suc, ◌+◌, ◌<◌, ◌≤◌, List, [], ◌∷◌, ◌++◌, length, get_or, take, arith, refl, sym, ap, ap₂, subst, ◌∙◌}
 use Rattle.std.proofs.lemmas.List.{take_more, take_all}
 use Rattle.emp_num.specs.Whole.{whole}
 use Rattle.emp_num.specs.declared.frac.Frac.{Frac}
@@ -32,7 +32,7 @@ pub written_same : (q : Quad) (xs ys : List Frac) → ((k : ℕ) → entry xs k 
 written_same q xs ys h = ap (λ s. square_from s q.square xs) (linear_same q.linear (given q.constant) xs ys h) ∙ square_same q.square (linear_from (given q.constant) q.linear ys) xs ys h
 
 -- ---- how many variables terms reach
-linear_up : (ts : List (VarId × Frac)) (n k : ℕ) → n ≤ k → LinearWithin n ts → LinearWithin k ts
+pub linear_up : (ts : List (VarId × Frac)) (n k : ℕ) → n ≤ k → LinearWithin n ts → LinearWithin k ts
 linear_up [] n k l h = tt
 linear_up (t ∷ ts) n k l h = (let j = h.0 in omega arith, linear_up ts n k l h.1)
 
@@ -47,7 +47,7 @@ linear_more ts n k i t l is le below h =
 pub linear_done : (ts : List (VarId × Frac)) (n i : ℕ) → length ts ≤ i → LinearWithin n (take i ts) → LinearWithin n ts
 linear_done ts n i l h = subst (λ ys. LinearWithin n ys) (take_all i ts l) h
 
-square_up : (ts : List (VarId × VarId × Frac)) (n k : ℕ) → n ≤ k → SquareWithin n ts → SquareWithin k ts
+pub square_up : (ts : List (VarId × VarId × Frac)) (n k : ℕ) → n ≤ k → SquareWithin n ts → SquareWithin k ts
 square_up [] n k l h = tt
 square_up (t ∷ ts) n k l h = (let j = h.0 in omega arith, let j = h.1 in omega arith, square_up ts n k l h.2)
 

@@ -1,30 +1,29 @@
 -- The polynomials of objectives, from the differences.
-use Rattle.std.proofs.Common.{◌≡◌, ◌⊎◌, inl, inr, ℕ, zero, suc, ◌<◌, ◌≤◌, ℤ, pos, negsuc, neg_ℤ, ◌*ℤ◌, ◌<ℤ◌, Bool, true, false, List, [], ◌∷◌, length, get_or, Option, Some, None, arith, refl, sym, ap, subst, ◌∙◌}
+use Rattle.std.proofs.Common.{◌≡◌, inl, inr, ℕ, zero, suc, ◌<◌, ℤ, pos, negsuc, neg_ℤ, ◌*ℤ◌, ◌<ℤ◌, Bool, true, false, List, [], ◌∷◌, length, Option, Some, None, arith, refl, sym, ap, subst, ◌∙◌}
 use Rattle.std.specs.Prelude.{slice_get}
-use Rattle.std.proofs.lemmas.Bool.{false≢true, true≢false, both_ways}
+use Rattle.std.proofs.lemmas.Bool.{false≢true}
 use Rattle.std.proofs.lemmas.Int.{ints}
-use Rattle.std.proofs.lemmas.Option.{same_Some, slice_get_within}
+use Rattle.std.proofs.lemmas.Option.{slice_get_within}
 use Rattle.emp_algebra.proofs.Order.{cancel_right}
 use Rattle.emp_algebra.proofs.Ring.{var, lit, neg, ◌⊗◌, by_ring}
 use Rattle.emp_num.specs.FracSpec.{IsQuotient}
 use Rattle.emp_num.specs.declared.frac.Frac.{Frac}
-use Rattle.emp_ast.specs.declared.tree.VarId.{VarId}
 use Rattle.emp_ast.specs.declared.tree.EquId.{EquId}
 use Rattle.emp_ast.specs.declared.model.Equation.{Equation}
 use Rattle.emp_ast.specs.declared.model.Sense.{Sense}
 use Rattle.emp_ast.specs.declared.model.Sense.TheVariants.{Min, Max}
 use Rattle.emp_ast.specs.declared.model.Model.{Model}
 use Rattle.emp_ast.specs.declared.annot.Annot.{Annot}
-use Rattle.emp_ast.specs.Parties.{Party, objective, defines}
+use Rattle.emp_ast.specs.Parties.{Party, objective}
 use Rattle.emp_form.specs.Form.{Form, negated_form}
 use Rattle.emp_form.specs.Expansion.{form}
 use Rattle.emp_poly.specs.Quads.{linear_at, square_at, HasForm}
 use Rattle.emp_poly.specs.declared.quad.Quad.{Quad}
 use Rattle.emp_owner.specs.Settled.{IsDefinition}
-use Rattle.emp_agents.specs.Given.{difference, IsSign, HasTerm, times_form, without, solved_form, given_form, StandsOnce}
+use Rattle.emp_agents.specs.Given.{difference, IsSign, times_form, without, given_form, StandsOnce}
 use Rattle.emp_agents.proofs.Given.{objective_stands_once, given_form_is}
 use Rattle.emp_problem.specs.Left.{signed}
-use Rattle.emp_subst.specs.Stages.{sign_of, IsTimes, IsWithout, IsSolved, SolvesBy, AreDifferences, EntryFits, is_max}
+use Rattle.emp_subst.specs.Stages.{sign_of, IsTimes, IsWithout, IsSolved, SolvesBy, AreDifferences, is_max}
 
 -- a polynomial of a form has each form with the same coefficients
 same_form : (q : Quad) (f g : Form) → HasForm q f → f.den ≡ g.den → f.constant ≡ g.constant → ((i : ℕ) → f.linear i ≡ g.linear i) → ((i j : ℕ) → f.square i j ≡ g.square i j) → HasForm q g

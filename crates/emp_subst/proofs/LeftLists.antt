@@ -1,7 +1,6 @@
 -- The variables that are left and the own ones among them, as lists.
-use Rattle.std.proofs.Common.{◌≡◌, ◌≢◌, ◌⊎◌, inl, inr, ℕ, zero, suc, ◌+◌, ◌<◌, ◌≤◌, Bool, true, false, ◌&&◌, ◌||◌, not, cond, nat_eq, List, [], ◌∷◌, ◌++◌, All, length, get_or, take, drop, map, Option, Some, None, arith, refl, sym, ap, ap₂, subst, ◌∙◌}
-use Rattle.std.specs.Prelude.{slice_get, slice_index_or, filter}
-use Rattle.std.proofs.lemmas.Bool.{cases_Bool}
+use Rattle.std.proofs.Common.{◌≡◌, ℕ, zero, suc, ◌+◌, ◌<◌, ◌≤◌, Bool, true, false, not, cond, List, [], ◌∷◌, ◌++◌, length, get_or, take, map, Option, Some, arith, refl, sym, ap, ap₂, ◌∙◌}
+use Rattle.std.specs.Prelude.{slice_get, filter}
 use Rattle.std.proofs.lemmas.List.{take_more, take_all, append-nil, map-append, length-take-le}
 use Rattle.emp_ast.specs.declared.tree.VarId.{VarId}
 use Rattle.emp_ast.specs.declared.tree.EquId.{EquId}
@@ -13,7 +12,7 @@ use Rattle.emp_ast.specs.Parties.{leader, block, owns, is_defined, is_defined_of
 use Rattle.emp_ast.specs.Convex.{counted, counted_by}
 use Rattle.emp_owner.specs.Settled.{IsDefinition}
 use Rattle.emp_problem.specs.declared.problem.LeftVariable.{LeftVariable}
-use Rattle.emp_problem.specs.Left.{left_from, left, no_variable, range_of, leader_own}
+use Rattle.emp_problem.specs.Left.{left_from, left, no_variable, leader_own}
 use Rattle.emp_problem.specs.ProblemOf.{left_variable}
 use Rattle.emp_subst.specs.Stages.{is_solved}
 use Rattle.emp_subst.proofs.Defined.{solved_is}

@@ -1,4 +1,5 @@
 pub mod Putting
+pub mod Values
 pub mod Defined
 pub mod Senses
 pub mod Expanding
@@ -12,4 +13,9 @@ pub mod Spreading
 pub mod Owners
 pub mod BlockLists
 pub mod Turning
+pub mod Absent
+pub mod Filled
 pub mod Made
+pub mod Keeping
+pub mod SameRows
+pub mod Apart

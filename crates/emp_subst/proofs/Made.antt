@@ -1,8 +1,6 @@
 -- What is shown of a file of which a problem is made.
-use Rattle.std.proofs.Common.{◌≡◌, ℕ, ◌<◌, true, length, Some}
-use Rattle.std.specs.Prelude.{slice_get}
+use Rattle.std.proofs.Common.{◌≡◌, true}
 use Rattle.std.proofs.lemmas.Option.{slice_get_within}
-use Rattle.emp_ast.specs.declared.model.Equation.{Equation}
 use Rattle.emp_ast.specs.declared.model.Model.{Model}
 use Rattle.emp_ast.specs.declared.annot.Annot.{Annot}
 use Rattle.emp_ast.specs.Parties.{leader}

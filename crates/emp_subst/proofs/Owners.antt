@@ -1,35 +1,34 @@
 -- An objective that an equation may define is owned by its party alone.
-use Rattle.std.proofs.Common.{◌≡◌, ◌≢◌, ◌⊎◌, inl, inr, ℕ, zero, suc, ◌+◌, ◌<◌, ◌≤◌, max, Bool, true, false, ◌&&◌, ◌||◌, not, cond, nat_eq, List, [], ◌∷◌, length, get_or, Option, Some, None, arith, refl, sym, ap, ap₂, subst, ◌∙◌}
+use Rattle.std.proofs.Common.{◌≡◌, ◌≢◌, ◌⊎◌, inl, inr, ℕ, zero, suc, ◌+◌, ◌<◌, ◌≤◌, max, Bool, true, false, ◌||◌, not, cond, nat_eq, List, [], ◌∷◌, length, get_or, Option, Some, None, arith, refl, sym, ap, ap₂, subst, ◌∙◌}
 use Rattle.std.specs.Prelude.{slice_get}
 use Rattle.std.specs.List.{list_any, count_by}
-use Rattle.std.proofs.lemmas.Bool.{eq-eqb, eqb-true, leb-false, and_parts, and_from, or_parts, or_left, or_right, cases_eq, cases_Bool, false≢true}
+use Rattle.std.proofs.lemmas.Bool.{eq-eqb, leb-false, and_from, or_parts, or_left, or_right, cases_eq, cases_Bool, false≢true}
 use Rattle.std.proofs.lemmas.Option.{same_Some, slice_get_within, slice_get-get_or}
 use Rattle.std.proofs.lemmas.List.Sums.{sum_by-cons}
 use Rattle.emp_ast.specs.declared.tree.VarId.{VarId}
-use Rattle.emp_ast.specs.declared.tree.EquId.{EquId}
 use Rattle.emp_ast.specs.declared.model.Sense.{Sense}
 use Rattle.emp_ast.specs.declared.model.Model.{Model}
 use Rattle.emp_ast.specs.declared.annot.Block.{Block}
 use Rattle.emp_ast.specs.declared.annot.Block.TheVariants.{Agent, Vi}
 use Rattle.emp_ast.specs.declared.annot.Annot.{Annot}
-use Rattle.emp_ast.specs.Parties.{Party, leader, block, names_variable, block_variables, block_owns, owns, is_goal, is_dual, some_block_owns, objective, block_objective, goal_objective}
+use Rattle.emp_ast.specs.Parties.{leader, block, names_variable, block_variables, block_owns, owns, is_goal, is_dual, some_block_owns, objective, block_objective, goal_objective}
 use Rattle.emp_owner.specs.Rules.{is_implicit, leader_namings, owners_of, own_namings, dual_namings, is_twice, variable_times, objective_is, pair_names, has_role, is_leaders, owned_twice, implicit_use}
 use Rattle.emp_owner.specs.Settled.{IsKept}
 use Rattle.emp_problem.specs.Class.{BlockFits, AnnotFits, GoalFits}
 
 -- ---- counts
-count_cons : {X : Type 0} (p : X → Bool) (x : X) (xs : List X) → count_by p (x ∷ xs) ≡ cond (p x) 1 0 + count_by p xs
+pub count_cons : {X : Type 0} (p : X → Bool) (x : X) (xs : List X) → count_by p (x ∷ xs) ≡ cond (p x) 1 0 + count_by p xs
 count_cons p x xs = sum_by-cons (λ y. cond (p y) 1 0) x xs
 
 first_counts : {X : Type 0} (p : X → Bool) (x : X) (xs : List X) → p x ≡ true → count_by p (x ∷ xs) ≡ 1 + count_by p xs
 first_counts p x xs h = count_cons p x xs ∙ ap (λ b. cond b 1 0 + count_by p xs) h
 
-count_one : {X : Type 0} (p : X → Bool) (xs : List X) (i : ℕ) (x : X) → slice_get xs i ≡ Some x → p x ≡ true → 1 ≤ count_by p xs
+pub count_one : {X : Type 0} (p : X → Bool) (xs : List X) (i : ℕ) (x : X) → slice_get xs i ≡ Some x → p x ≡ true → 1 ≤ count_by p xs
 count_one p [] i x at h = cc
 count_one p (y ∷ xs) zero x at h = let c = first_counts p y xs (ap p (same_Some y x at) ∙ h) in omega (arith, c)
 count_one p (y ∷ xs) (suc i) x at h = let l = count_one p xs i x at h in let c = count_cons p y xs in omega (arith, c, l)
 
-count_two : {X : Type 0} (p : X → Bool) (xs : List X) (i j : ℕ) (x y : X) → slice_get xs i ≡ Some x → slice_get xs j ≡ Some y → p x ≡ true → p y ≡ true → i ≢ j → 2 ≤ count_by p xs
+pub count_two : {X : Type 0} (p : X → Bool) (xs : List X) (i j : ℕ) (x y : X) → slice_get xs i ≡ Some x → slice_get xs j ≡ Some y → p x ≡ true → p y ≡ true → i ≢ j → 2 ≤ count_by p xs
 count_two p [] i j x y at there h k n = cc
 count_two p (z ∷ xs) zero zero x y at there h k n = absurd (n refl)
 count_two p (z ∷ xs) zero (suc j) x y at there h k n =
@@ -38,7 +37,7 @@ count_two p (z ∷ xs) (suc i) zero x y at there h k n =
     let c = first_counts p z xs (ap p (same_Some z y there) ∙ k) in let l = count_one p xs i x at h in omega (arith, c, l)
 count_two p (z ∷ xs) (suc i) (suc j) x y at there h k n = let l = count_two p xs i j x y at there h k (λ e. n (ap suc e)) in let c = count_cons p z xs in omega (arith, c, l)
 
-any_at : {X : Type 0} (p : X → Bool) (xs : List X) (i : ℕ) (x : X) → slice_get xs i ≡ Some x → p x ≡ true → list_any p xs ≡ true
+pub any_at : {X : Type 0} (p : X → Bool) (xs : List X) (i : ℕ) (x : X) → slice_get xs i ≡ Some x → p x ≡ true → list_any p xs ≡ true
 any_at p [] i x at h = cc
 any_at p (y ∷ xs) zero x at h = or_left (p y) (list_any p xs) (ap p (same_Some y x at) ∙ h)
 any_at p (y ∷ xs) (suc i) x at h = or_right (p y) (list_any p xs) (any_at p xs i x at h)
@@ -93,7 +92,7 @@ objective_once m a k v kept l o = record { few = go (cases_Bool (is_implicit a v
         omega (arith, same, below)
 
 -- ---- one party alone
-owner_at : (m : Model) (a : Annot) (k v : ℕ) → owns m a (block k) v ≡ true → (b : Block) × (slice_get a.blocks k ≡ Some b) × (names_variable (block_variables b) v ≡ true)
+pub owner_at : (m : Model) (a : Annot) (k v : ℕ) → owns m a (block k) v ≡ true → (b : Block) × (slice_get a.blocks k ≡ Some b) × (names_variable (block_variables b) v ≡ true)
 owner_at m a k v h = go (slice_get a.blocks k) refl h
   where
     go : (o : Option Block) → slice_get a.blocks k ≡ o → block_owns o v ≡ true → (b : Block) × (slice_get a.blocks k ≡ Some b) × (names_variable (block_variables b) v ≡ true)
@@ -112,12 +111,12 @@ one_block m a k j v s kept l is h = go (cases_eq k j)
         let two = count_two (λ b. names_variable (block_variables b) v) a.blocks k j o.block w.0 o.is w.1 o.named w.2 other in
         absurd (omega (arith, few, two))
 
-named_leader : (m : Model) (a : Annot) (v : ℕ) → a.bilevel ≡ true → is_goal m v ≡ true → 1 ≤ leader_namings m a v
+pub named_leader : (m : Model) (a : Annot) (v : ℕ) → a.bilevel ≡ true → is_goal m v ≡ true → 1 ≤ leader_namings m a v
 named_leader m a v b g =
     let same : leader_namings m a v ≡ max 1 (variable_times v a.leader) = ap₂ (λ x y. cond x (cond y (max 1 (variable_times v a.leader)) (variable_times v a.leader)) 0) b g in
     omega (arith, same)
 
-goal_named : (m : Model) (v : ℕ) (s : Sense) → goal_objective m.goal ≡ Some (s, v) → is_goal m v ≡ true
+pub goal_named : (m : Model) (v : ℕ) (s : Sense) → goal_objective m.goal ≡ Some (s, v) → is_goal m v ≡ true
 goal_named m v s h = go m.goal refl h
   where
     go : (g : Option (Sense × VarId)) → m.goal ≡ g → goal_objective g ≡ Some (s, v) → is_goal m v ≡ true

@@ -1,7 +1,6 @@
 -- Whose defined objective a variable is.
-use Rattle.std.proofs.Common.{◌≡◌, ◌⊎◌, inl, inr, ℕ, ◌<◌, Bool, true, false, ◌&&◌, cond, nat_eq, List, length, get_or, Option, Some, None, arith, refl, sym, ap, subst, ◌∙◌}
-use Rattle.std.specs.Prelude.{slice_get}
-use Rattle.std.proofs.lemmas.Bool.{eqb-true, and_parts, false≢true, cases_Bool}
+use Rattle.std.proofs.Common.{◌≡◌, ℕ, ◌<◌, Bool, true, false, ◌&&◌, cond, nat_eq, List, length, get_or, Option, Some, None, arith, refl, sym, ap, subst, ◌∙◌}
+use Rattle.std.proofs.lemmas.Bool.{eqb-true, and_parts}
 use Rattle.std.proofs.lemmas.Option.{same_Some}
 use Rattle.emp_ast.specs.declared.tree.EquId.{EquId}
 use Rattle.emp_ast.specs.declared.model.Sense.{Sense}
@@ -11,7 +10,7 @@ use Rattle.emp_ast.specs.declared.annot.Annot.{Annot}
 use Rattle.emp_ast.specs.Parties.{Party, leader, block, objective, block_objective, goal_objective, is_defined_of}
 use Rattle.emp_owner.specs.Settled.{IsDefinition, IsLeaderDefinition, AreDefinitions}
 use Rattle.emp_owner.proofs.Lists.{get_is}
-use Rattle.emp_subst.specs.Stages.{is_some, is_solved_by, is_solved}
+use Rattle.emp_subst.specs.Stages.{is_some, is_solved_by}
 use Rattle.emp_subst.specs.Filling.{sense_by, Solves, FindsLeader}
 use Rattle.emp_subst.proofs.Defined.{solved_of, solved_is}
 

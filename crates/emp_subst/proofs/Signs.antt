@@ -1,20 +1,17 @@
 -- Polynomials times 1 or -1, and polynomials without a variable.
-use Rattle.std.proofs.Common.{◌≡◌, ◌≢◌, ◌⊎◌, inl, inr, ℕ, zero, suc, ◌+◌, ◌<◌, ◌≤◌, ℤ, pos, negsuc, neg_ℤ, ◌*ℤ◌, ◌<ℤ◌, Bool, true, false, ◌&&◌, not, cond, nat_eq, nat_lt, List, [], ◌∷◌, ◌++◌, length, get_or, take, arith, refl, sym, ap, ap₂, subst, subst₂, ◌∙◌}
+use Rattle.std.proofs.Common.{◌≡◌, ◌≢◌, ◌⊎◌, inl, inr, ℕ, zero, suc, ◌+◌, ◌<◌, ◌≤◌, ℤ, pos, negsuc, neg_ℤ, ◌*ℤ◌, Bool, true, false, ◌&&◌, not, cond, nat_eq, nat_lt, List, [], ◌∷◌, ◌++◌, length, get_or, take, arith, refl, sym, ap, ap₂, subst, subst₂, ◌∙◌}
 use Rattle.std.specs.Prelude.{filter}
-use Rattle.std.proofs.lemmas.Bool.{eq-eqb, ne_eqb, eqb-true, eqb-false, and_parts, and_from, cases_eq, cases_Bool}
-use Rattle.std.proofs.lemmas.Int.{ints}
+use Rattle.std.proofs.lemmas.Bool.{eq-eqb, ne_eqb, and_parts, and_from, cases_eq, cases_Bool}
 use Rattle.std.proofs.lemmas.List.{take_more, take_all}
 use Rattle.emp_algebra.proofs.Ring.{var, lit, neg, ◌⊗◌, by_ring}
 use Rattle.emp_num.specs.FracSpec.{IsQuotient}
 use Rattle.emp_num.specs.Whole.{whole}
 use Rattle.emp_num.specs.declared.frac.Frac.{Frac}
 use Rattle.emp_ast.specs.declared.tree.VarId.{VarId}
-use Rattle.emp_form.specs.Form.{Form}
 use Rattle.emp_poly.specs.Terms.{is_not_zero, is_linear_from, comes_from, is_square_from}
-use Rattle.emp_poly.specs.Quads.{linear_at, square_at, HasForm}
+use Rattle.emp_poly.specs.Quads.{linear_at, square_at}
 use Rattle.emp_poly.specs.declared.quad.Quad.{Quad}
-use Rattle.emp_poly.proofs.QuadForms.{LinearFacts, linear_facts, at_least}
-use Rattle.emp_agents.specs.Given.{times_form, without}
+use Rattle.emp_poly.proofs.QuadForms.{LinearFacts, linear_facts}
 use Rattle.emp_subst.specs.Stages.{sign_of, LinearTimes, SquareTimes, IsTimes, IsWithout}
 
 -- ---- one coefficient
@@ -108,7 +105,6 @@ square_entry s (t ∷ ts) (x ∷ xs) i j h =
     go false rest = rest
 
 pub ruleset timing = (linear_more, linear_done, square_more, square_done)
-
 
 -- ---- the polynomial
 pub times_linear : (q : Quad) (b : Bool) (xs ts : List (VarId × Frac)) → ts ≡ q.linear → LinearTimes (sign_of b) ts xs → is_linear_from 0 xs ≡ true

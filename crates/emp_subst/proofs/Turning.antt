@@ -1,8 +1,8 @@
 -- The values of defined objectives, by their parties.
-use Rattle.std.proofs.Common.{◌≡◌, ◌≢◌, ◌⊎◌, inl, inr, ℕ, zero, suc, ◌+◌, ◌<◌, ◌≤◌, Bool, true, false, ◌&&◌, nat_eq, List, [], ◌∷◌, ◌++◌, length, get_or, Option, Some, None, length-append, arith, refl, sym, ap, subst, ◌∙◌}
+use Rattle.std.proofs.Common.{◌≡◌, inl, inr, ℕ, zero, suc, ◌+◌, ◌<◌, ◌≤◌, Bool, true, false, ◌&&◌, nat_eq, List, [], ◌∷◌, ◌++◌, length, get_or, Option, Some, None, length-append, arith, refl, sym, ap, subst, ◌∙◌}
 use Rattle.std.specs.Prelude.{slice_get, Result, Ok, Err}
 use Rattle.std.specs.List.{list_any}
-use Rattle.std.proofs.lemmas.Bool.{false≢true, eqb-true, and_parts, or_left, or_right, and_from, cases_lt}
+use Rattle.std.proofs.lemmas.Bool.{false≢true, eqb-true, and_parts, or_left, or_right, and_from}
 use Rattle.std.proofs.lemmas.Option.{same_Some, slice_get_within, slice_get-get_or}
 use Rattle.emp_num.specs.declared.frac.Frac.{Frac}
 use Rattle.emp_ast.specs.declared.tree.VarId.{VarId}
@@ -11,13 +11,12 @@ use Rattle.emp_ast.specs.declared.model.Model.{Model}
 use Rattle.emp_ast.specs.declared.annot.Block.{Block}
 use Rattle.emp_ast.specs.declared.annot.Block.TheVariants.{Agent, Vi}
 use Rattle.emp_ast.specs.declared.annot.Annot.{Annot}
-use Rattle.emp_ast.specs.Parties.{Party, leader, block, objective, block_objective, is_defined, is_defined_of, is_defined_by, some_block_defines, owns, block_owns, defines, equations, names_variable, block_variables}
+use Rattle.emp_ast.specs.Parties.{Party, leader, block, objective, block_objective, is_defined, is_defined_of, is_defined_by, some_block_defines, owns, block_owns, defines, equations}
 use Rattle.emp_form.specs.Calls.{Formula, given, Gives, HasWideCall}
 use Rattle.emp_poly.specs.Written.{entry, linear_from, square_from, written_value}
 use Rattle.emp_poly.specs.declared.quad.Quad.{Quad}
 use Rattle.emp_poly.specs.declared.quad.Lin.{Lin}
-use Rattle.emp_owner.specs.Settled.{IsKept}
-use Rattle.emp_owner.proofs.Lists.{get_is, each_pushed}
+use Rattle.emp_owner.proofs.Lists.{each_pushed}
 use Rattle.emp_problem.specs.declared.problem.Purpose.{Purpose}
 use Rattle.emp_problem.specs.declared.problem.Purpose.TheVariants.{Goal, Flow}
 use Rattle.emp_problem.specs.declared.problem.BlockPart.{BlockPart}
@@ -27,8 +26,8 @@ use Rattle.emp_problem.specs.ProblemOf.{IsBlockFor, IsPurposeFor, AreBlocksFor, 
 use Rattle.emp_problem.specs.Class.{IsClassFile}
 use Rattle.emp_subst.specs.declared.fault.FillFault.{FillFault}
 use Rattle.emp_subst.specs.declared.fault.FillFault.TheVariants.{Wide, NoMemory}
-use Rattle.emp_subst.specs.Fill.{IsBlockFold, IsLeaderFold, IsFold, IsFirstWide}
-use Rattle.emp_subst.specs.Filling.{FoldGives, IsTurned, TurnsFold, TurnedGives, Solves, FindsLeader, PartyFold, IsValue, IsWideAt, ValueGives, AreValues, ValuesGive}
+use Rattle.emp_subst.specs.Fill.{IsBlockFold, IsLeaderFold, IsFold}
+use Rattle.emp_subst.specs.Filling.{IsTurned, TurnsFold, TurnedGives, Solves, PartyFold, IsValue, ValueGives, AreValues, ValuesGive}
 use Rattle.emp_subst.proofs.Defined.{some_defines}
 use Rattle.emp_subst.proofs.Owners.{ObjectiveOf, objective_of, one_block, not_leader, objective_fits}
 
@@ -88,7 +87,7 @@ has_goal m a pr k v s p h is at =
     purpose_goal m a k o.block p.purpose (s, v) (ap block_objective (sym o.is) ∙ is) (block_at m a pr k o.block p h o.is at).purpose
 
 -- ---- one party defines it
-defined_objective : (m : Model) (a : Annot) (p : Party) (v : ℕ) → is_defined_of m a p v ≡ true → (s : Sense) × (objective m a p ≡ Some (s, v))
+pub defined_objective : (m : Model) (a : Annot) (p : Party) (v : ℕ) → is_defined_of m a p v ≡ true → (s : Sense) × (objective m a p ≡ Some (s, v))
 defined_objective m a p v h = go (objective m a p) refl h
   where
     go : (o : Option (Sense × ℕ)) → objective m a p ≡ o → is_defined_by m a p v o ≡ true → (s : Sense) × (objective m a p ≡ Some (s, v))

@@ -1,6 +1,5 @@
 -- What the parts of `fill` give. This serves proofs; no meaning cites it.
-use Rattle.std.specs.Prelude.{◌≡◌, ◌⊎◌, ℕ, ◌<◌, ◌*ℤ◌, false, true, ◌&&◌, cond, nat_eq, List, length, slice_get, slice_index_or, Option, Some, None, Result, Ok, Err}
-use Rattle.emp_num.specs.Whole.{whole}
+use Rattle.std.specs.Prelude.{◌≡◌, ℕ, ◌<◌, ◌*ℤ◌, false, true, ◌&&◌, cond, nat_eq, List, length, slice_get, Option, Some, None, Result, Ok, Err}
 use Rattle.emp_num.specs.declared.frac.Frac.{Frac}
 use Rattle.emp_ast.specs.declared.tree.VarId.{VarId}
 use Rattle.emp_ast.specs.declared.tree.EquId.{EquId}
@@ -8,7 +7,7 @@ use Rattle.emp_ast.specs.declared.model.Sense.{Sense}
 use Rattle.emp_ast.specs.declared.model.Model.{Model}
 use Rattle.emp_ast.specs.declared.annot.Annot.{Annot}
 use Rattle.emp_ast.specs.Parties.{Party, leader, block, objective, is_defined, is_defined_of, some_block_defines}
-use Rattle.emp_form.specs.Calls.{Formula, Gives, Runs, HasWideCall}
+use Rattle.emp_form.specs.Calls.{Formula, Gives, HasWideCall}
 use Rattle.emp_poly.specs.Written.{entry}
 use Rattle.emp_problem.specs.declared.problem.AgentProblem.{AgentProblem}
 use Rattle.emp_subst.specs.declared.fault.FillFault.{FillFault}

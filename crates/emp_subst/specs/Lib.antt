@@ -1,4 +1,5 @@
 pub mod Subst
 pub mod Fill
+pub mod Keeps
 pub mod Stages
 pub mod Filling

@@ -1,5 +1,5 @@
 -- What the parts of `make` and `fill` give. This serves proofs; no meaning cites it.
-use Rattle.std.specs.Prelude.{◌≡◌, ◌⊎◌, ℕ, ◌+◌, ◌<◌, ◌≤◌, ℤ, pos, negsuc, neg_ℤ, ◌*ℤ◌, Bool, true, false, not, ◌&&◌, nat_eq, List, [], ◌∷◌, ◌++◌, All, map, filter, length, slice_get, Option, Some, None, Result, Ok, Err}
+use Rattle.std.specs.Prelude.{◌≡◌, ℕ, ◌<◌, ℤ, pos, negsuc, neg_ℤ, ◌*ℤ◌, Bool, true, false, not, ◌&&◌, nat_eq, List, [], ◌∷◌, All, length, slice_get, Option, Some, None, Result, Ok, Err}
 use Rattle.emp_num.specs.declared.frac.Frac.{Frac}
 use Rattle.emp_ast.specs.declared.tree.VarId.{VarId}
 use Rattle.emp_ast.specs.declared.tree.EquId.{EquId}
@@ -26,7 +26,7 @@ use Rattle.emp_problem.specs.Left.{goal_form}
 use Rattle.emp_problem.specs.ProblemOf.{LeadsFor}
 use Rattle.emp_subst.specs.declared.fault.SubstFault.{SubstFault}
 use Rattle.emp_subst.specs.declared.fault.SubstFault.TheVariants.{Poly, Quadratic, LeaderNotLinear, NoMemory}
-use Rattle.emp_subst.specs.Subst.{AllExpand, IsFirstFault, PolyGives, AllLinear, IsFirstQuadratic, IsFirstSquare}
+use Rattle.emp_subst.specs.Subst.{AllExpand, IsFirstFault, AllLinear, IsFirstQuadratic, IsFirstSquare}
 
 -- one polynomial for each equation, with the coefficients of its difference
 pub record AreDifferences (m : Model) (ds : List Quad) : Type 0 where

@@ -32,11 +32,15 @@ use std::alloc::Global;
 fn entry(values: &[Frac], at: usize) -> Frac
     ensures { result ≡ entry values.now at }
 {
-    if at < values.len() { values[at] } else { zero() }
+    if at < values.len() {
+        values[at]
+    } else {
+        zero()
+    }
 }
 
 /// The values by all variables, with 0 for each that an equation defines.
-fn spread(
+pub fn spread(
     alloc: Global,
     model: &Model,
     annot: &Annot,
@@ -104,7 +108,10 @@ fn padded(alloc: Global, values: &[Frac], count: usize) -> Result<Seq<Frac>, NoM
 fn fold(alloc: Global, quad: &Quad, values: &[Frac], variable: VarId) -> Result<Frac, FillFault>
     ensures { FoldGives (written_value quad.now values.now) variable result }
 {
-    let reach = square_reach(quad.square.as_slice(), linear_reach(quad.linear.as_slice(), 0));
+    let reach = square_reach(
+        quad.square.as_slice(),
+        linear_reach(quad.linear.as_slice(), 0),
+    );
     let point = padded(alloc, values, reach)?;
     match at(quad, point.as_slice()) {
         Ok(value) => Ok(value),
@@ -116,7 +123,11 @@ fn fold(alloc: Global, quad: &Quad, values: &[Frac], variable: VarId) -> Result<
 fn turned(sense: Sense, value: Frac) -> Frac
     ensures { IsTurned sense value result }
 {
-    if is_max(sense) { Frac::neg(value) } else { value }
+    if is_max(sense) {
+        Frac::neg(value)
+    } else {
+        value
+    }
 }
 
 /// The value of a block's defined objective.
@@ -212,12 +223,7 @@ fn goal_sense(goal: Option<(Sense, VarId)>, definition: Option<EquId>, v: VarId)
 
 /// The sense of the leader's objective, where it is this variable and has a definition in a bilevel file.
 #[tactic(auto, using(crate::proofs::Senses::sensing))]
-fn leader_of(
-    model: &Model,
-    annot: &Annot,
-    definition: Option<EquId>,
-    v: VarId,
-) -> Option<Sense>
+fn leader_of(model: &Model, annot: &Annot, definition: Option<EquId>, v: VarId) -> Option<Sense>
     requires definition { IsLeaderDefinition model.now annot.now annot.now.bilevel definition }
     ensures { FindsLeader model.now annot.now v.at result }
 {

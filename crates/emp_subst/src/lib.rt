@@ -8,6 +8,7 @@ pub mod expand;
 pub mod fault;
 pub mod fill;
 pub mod goals;
+pub mod laws;
 pub mod lefts;
 pub mod make;
 pub mod parts;

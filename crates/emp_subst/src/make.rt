@@ -40,7 +40,14 @@ pub fn make(
         return Err(SubstFault::Quadratic(e, u, v));
     }
     let variables = left_variables(alloc, model, annot, owned)?;
-    let leader = leader_part(alloc, model, annot, differences.as_slice(), owned.leader, &variables)?;
+    let leader = leader_part(
+        alloc,
+        model,
+        annot,
+        differences.as_slice(),
+        owned.leader,
+        &variables,
+    )?;
     let blocks = block_parts(alloc, model, annot, differences.as_slice(), &owned.defined)?;
     let duals = annot.duals.copy(alloc)?;
     let visols = annot.visols.copy(alloc)?;

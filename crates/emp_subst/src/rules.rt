@@ -28,12 +28,7 @@ fn is_entry(entry: Option<EquId>, e: EquId) -> bool
 }
 
 /// Whether the equation is a constraint of the leader.
-pub fn leader_constrains(
-    model: &Model,
-    annot: &Annot,
-    definition: Option<EquId>,
-    e: EquId,
-) -> bool
+pub fn leader_constrains(model: &Model, annot: &Annot, definition: Option<EquId>, e: EquId) -> bool
     requires within { e.at < length model.now.equations }
     requires definition { IsDefinition model.now annot.now leader definition }
     ensures { result ≡ is_constraint model.now annot.now leader e.at }
@@ -65,10 +60,7 @@ pub fn leader_constraints(
 
 /// Puts the functions of the pairs at the end.
 #[tactic(auto, using(crate::proofs::Putting::putting))]
-fn put_functions(
-    list: &mut Seq<EquId>,
-    pairs: &Seq<(EquId, VarId)>,
-) -> Result<(), AllocError>
+fn put_functions(list: &mut Seq<EquId>, pairs: &Seq<(EquId, VarId)>) -> Result<(), AllocError>
     ensures { OnOk result (list.new ≡ list.old ++ map (λ q. q.0) pairs.now) }
 {
     for at in 0..pairs.len() {
@@ -167,12 +159,7 @@ pub fn block_constraints(
 
 /// The constraint of an equation.
 #[tactic(auto, using(crate::proofs::Constraints::is_rule))]
-fn rule_of(
-    alloc: Global,
-    model: &Model,
-    differences: &[Quad],
-    e: EquId,
-) -> Result<Rule, NoMemory>
+fn rule_of(alloc: Global, model: &Model, differences: &[Quad], e: EquId) -> Result<Rule, NoMemory>
     requires within { e.at < length model.now.equations }
     requires differences { AreDifferences model.now differences.now }
     ensures { IfOk result (λ r. IsRuleFor model.now e r) }

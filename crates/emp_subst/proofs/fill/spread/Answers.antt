@@ -1,11 +1,11 @@
-use Rattle.std.proofs.Common.{◌≡◌, ◌+◌, [], ◌∷◌, ◌++◌, drop, arith, refl, sym, ap, subst, ◌∙◌}
+use Rattle.std.proofs.Common.{◌≡◌, ◌+◌, [], ◌∷◌, ◌++◌, drop, arith, sym, ap, subst, ◌∙◌}
 use Rattle.emp_subst.specs.Fill.{spread_from, spread}
 use Rattle.emp_subst.proofs.Spreading.{spread_zero, spread_value, spread_done}
 use Rattle.emp_subst.proofs.fill.spread.Goals.{then-is_defined+in_ok-push, else-is_defined+in_ok-push-2}
 use Rattle.emp_subst.proofs.fill.spread.Goals as goal
 
 pub loop-at-preserved : goal.loop-at-preserved
-loop-at-preserved c = 
+loop-at-preserved c =
     let m = c.args.model.now in
     let a = c.args.annot.now in
     let n = c.loop-at.at in

@@ -1,10 +1,10 @@
-use Rattle.std.proofs.Common.{◌≤◌, ◌<◌, arith, ap, ◌∙◌}
+use Rattle.std.proofs.Common.{arith, ap, ◌∙◌}
 use Rattle.emp_subst.proofs.Folding.{square_more}
 use Rattle.emp_subst.proofs.LeftLists.{same_default}
 use Rattle.emp_subst.proofs.fill.square_reach.Goals as goal
 
 pub loop-k-preserved : goal.loop-k-preserved
-loop-k-preserved c = 
+loop-k-preserved c =
     let first = c.max.ensures in
     let reached = c.max-reach.ensures in
     let same = ap (λ t. t.0.at) c.index-terms-k.is in

@@ -4,7 +4,7 @@ use Rattle.emp_subst.proofs.lefts.left_variables.Goals.{then-not-is_defined+in_o
 use Rattle.emp_subst.proofs.lefts.left_variables.Goals as goal
 
 pub loop-at-preserved : goal.loop-at-preserved
-loop-at-preserved c = 
+loop-at-preserved c =
     let m = c.args.model.now in
     let a = c.args.annot.now in
     let n = c.loop-at.at in

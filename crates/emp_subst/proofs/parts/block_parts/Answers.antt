@@ -7,11 +7,11 @@ use Rattle.emp_subst.proofs.BlockLists.{blocks_more}
 use Rattle.emp_subst.proofs.parts.block_parts.Goals as goal
 
 pub block_part-requires-clause-entry : goal.block_part-requires-clause-entry
-block_part-requires-clause-entry c = 
+block_part-requires-clause-entry c =
     definition_fits c.args.model.now c.args.annot.now (block c.loop-at.at) c.get.result.now (definition_at c.args.model.now c.args.annot.now c.args.defined.now c.loop-at.at c.get.result.now c.requires.defined (omega arith) c.get.ensures)
 
 pub loop-at-preserved : goal.loop-at-preserved
-loop-at-preserved c = 
+loop-at-preserved c =
     let m = c.args.model.now in
     let a = c.args.annot.now in
     let n = c.loop-at.at in

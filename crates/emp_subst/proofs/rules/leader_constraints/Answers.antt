@@ -4,7 +4,7 @@ use Rattle.emp_subst.proofs.rules.leader_constraints.Goals.{then-leader_constrai
 use Rattle.emp_subst.proofs.rules.leader_constraints.Goals as goal
 
 pub loop-at-preserved : goal.loop-at-preserved
-loop-at-preserved c = 
+loop-at-preserved c =
     let m = c.args.model.now in
     let a = c.args.annot.now in
     let n = c.loop-at.at in
