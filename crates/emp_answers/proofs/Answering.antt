@@ -1,5 +1,5 @@
 -- What an answer over texts comes to.
-use Rattle.std.proofs.Common.{◌≡◌, ◌≢◌, ℕ, ◌<◌, ◌≤◌, true, false, List, [], ◌∷◌, length, Option, Some, Result, Ok, Err, IfOk, arith, subst, sym}
+use Rattle.std.proofs.Common.{◌≡◌, ◌≢◌, ℕ, ◌<◌, ◌≤◌, true, false, List, [], ◌∷◌, length, Option, Some, Result, Ok, Err, IfOk, get_or, arith, subst, sym, ap₂, ◌∙◌}
 use Rattle.emp_list.specs.declared.memory.NoMemory.{NoMemory}
 use Rattle.emp_ast.specs.declared.model.Model.{Model}
 use Rattle.emp_ast.specs.declared.annot.Annot.{Annot}
@@ -79,6 +79,14 @@ module _ (x : Result Answer NoMemory) (r : Asked) (rest : List (List ℕ)) where
 
   pub text_answer : (mt it : List ℕ) (m : Model) → is_built r ≡ true → IsModelText mt m → IfOk x (λ s. OverInfo r m it rest (outcome_of s)) → IfOk x (λ s. Answers r (mt ∷ it ∷ rest) (outcome_of s))
   text_answer mt it m built t p = ok_map x (λ s. OverInfo r m it rest (outcome_of s)) (λ s. Answers r (mt ∷ it ∷ rest) (outcome_of s)) (λ s h. over_one mt it m (outcome_of s) built t h) p
+
+-- the one text behind the model's and the annotation's
+pub rest_is : (rest : List (List ℕ)) (ct at seen : List ℕ) → rest ≡ ct ∷ [] → at ≡ get_or rest 0 at → seen ≡ at → rest ≡ seen ∷ []
+rest_is rest ct at seen e i s = go rest e i
+  where
+    go : (ts : List (List ℕ)) → ts ≡ ct ∷ [] → at ≡ get_or ts 0 at → ts ≡ seen ∷ []
+    go [] f j = cc
+    go (t ∷ ts) f j = let k : ts ≡ [] = cc in ap₂ (λ x xs. x ∷ xs) (sym j ∙ sym s) k
 
 pub not_built : (r : Asked) (texts : List (List ℕ)) (o : Outcome) → is_built r ≡ false → o ≡ refusal 30 not_yet_line → Answers r texts o
 not_built r texts o h e = subst (Answers r texts) (sym e) (unbuilt texts h)

@@ -5,18 +5,17 @@ use Rattle.emp_ast.specs.declared.model.Model.{Model}
 use Rattle.emp_ast.specs.declared.annot.Annot.{Annot}
 use Rattle.emp_command.specs.Words.{Asked}
 use Rattle.emp_command.specs.Course.{Outcome, refusal}
-use Rattle.emp_ast.specs.declared.tree.VarId.{VarId}
+use Rattle.emp_subst.specs.declared.fault.FillFault.{FillFault}
+use Rattle.emp_subst.specs.declared.fault.FillFault.TheVariants as FillWords
 use Rattle.emp_cert.specs.declared.cert.Found.{Found}
 use Rattle.emp_walk.specs.declared.fault.WalkFault.{WalkFault}
 use Rattle.emp_walk.specs.declared.fault.WalkFault.TheVariants as WalkWords
 use Rattle.emp_walk.specs.Founds.{CertGives, FoundGives}
 use Rattle.emp_solution.specs.declared.state.Stated.{Stated}
 use Rattle.emp_solution.specs.Stated.{IsStated}
-use Rattle.emp_lines.specs.ClassLines.{value_line}
-use Rattle.emp_cert_lines.specs.CertLines.{long_line}
 use Rattle.emp_answers.specs.declared.said.Answer.{Answer}
-use Rattle.emp_answers.specs.Answers.{walk_status, walk_line, IsUnfilled, IsReport, cert_stores, CertFits, CertIsLong, Refuses, Solves, refused, unfinished, unfilled, too_long, answered}
-use Rattle.emp_answers.specs.Outcomes.{outcome_of, Delivered}
+use Rattle.emp_answers.specs.Answers.{walk_status, walk_line, IsReport, cert_stores, CertFits, CertIsLong, Refuses, Solves, refused, unfinished, unfilled, too_long, answered}
+use Rattle.emp_answers.specs.Outcomes.{outcome_of, Delivered, ReportGives, ValueRefused}
 use Rattle.emp_answers.proofs.Oks.{ok_map}
 
 module _ (x : Result Answer NoMemory) (m : Model) (a : Annot) (r : Asked) where
@@ -36,5 +35,9 @@ module _ (x : Result Answer NoMemory) (m : Model) (a : Annot) (r : Asked) where
   pub delivered_answer : (s : Stated) (f : Found) (t : ℕ × List ℕ) → IsStated m a s → CertGives s.system r.work (Ok f) → IsReport m a s f t → IfOk x (λ o. Delivered r.output f.cert t (outcome_of o)) → IfOk x Good
   delivered_answer s f t i g k p = ok_map x (λ o. Delivered r.output f.cert t (outcome_of o)) Good (λ o h. deliver_one s f t o i g k h) p
 
-pub unfilled_answer : (m : Model) (a : Annot) (r : Asked) (s : Stated) (f : Found) (w : VarId) (o : Outcome) → IsStated m a s → CertGives s.system r.work (Ok f) → IsUnfilled m a s f.cert.verdict w → o ≡ refusal 19 (value_line m w) → Solves m a r o
-unfilled_answer m a r s f w o i g u e = subst (Solves m a r) (sym e) (unfilled s f w i g u)
+unfilled_one : (m : Model) (a : Annot) (r : Asked) (s : Stated) (f : Found) (w : FillFault) (o : Outcome) → IsStated m a s → CertGives s.system r.work (Ok f) → ReportGives m a s f (Err w) → ValueRefused m w o → Solves m a r o
+unfilled_one m a r s f (FillWords.Wide w) o i g u e = subst (Solves m a r) (sym e) (unfilled s f w i g u)
+unfilled_one m a r s f FillWords.NoMemory o i g u e = absurd e
+
+pub unfilled_answer : (x : Result Answer NoMemory) (m : Model) (a : Annot) (r : Asked) (s : Stated) (f : Found) (w : FillFault) → IsStated m a s → CertGives s.system r.work (Ok f) → ReportGives m a s f (Err w) → IfOk x (λ o. ValueRefused m w (outcome_of o)) → IfOk x (λ o. Solves m a r (outcome_of o))
+unfilled_answer x m a r s f w i g u p = ok_map x (λ o. ValueRefused m w (outcome_of o)) (λ o. Solves m a r (outcome_of o)) (λ o e. unfilled_one m a r s f w (outcome_of o) i g u e) p

@@ -19,6 +19,7 @@ use Rattle.emp_rows.specs.declared.system.RowSystem.{RowSystem}
 use Rattle.emp_answers.specs.declared.certificates.Tried.{Tried}
 use Rattle.emp_answers.specs.declared.certificates.Tried.TheVariants.{Accepted, Refused}
 use Rattle.emp_lines.specs.TextLines.{info_line}
+use Rattle.emp_lines.specs.ClassLines.{value_line}
 use Rattle.gms_print.specs.Canonical.{IsCanonical}
 use Rattle.info_print.specs.Canonical.{info_text}
 use Rattle.emp_owner.specs.declared.owned.Owned.{Owned}
@@ -76,6 +77,11 @@ abbrev pub ReportGives : Model → Annot → Stated → Found → Result Report 
 ReportGives m a s f (Ok t) = IsReport m a s f (report_of t)
 ReportGives m a s f (Err (FillWords.Wide w)) = IsUnfilled m a s f.cert.verdict w
 ReportGives m a s f (Err FillWords.NoMemory) = Unit {0}
+
+-- the line of the variable whose value is wide
+abbrev pub ValueRefused : Model → FillFault → Outcome → Type 0
+ValueRefused m (FillWords.Wide w) o = o ≡ refusal 19 (value_line m w)
+ValueRefused m FillWords.NoMemory o = ⊥
 
 -- why a certificate is not stored
 abbrev pub StoresFail : Option (List ℕ) → Cert → WriteFault → Type 0

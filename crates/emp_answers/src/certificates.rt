@@ -1,5 +1,8 @@
 //! What `check` and `migrate` answer.
-ghost use Rattle.std.specs.Prelude.{◌≡◌, ◌<◌, ◌≤◌, List, ℕ, length, map, IfOk};
+ghost use Rattle.std.specs.Prelude.{◌≡◌, ◌≢◌, ◌<◌, ◌≤◌, List, ℕ, length, map, IfOk};
+ghost use Rattle.emp_command.specs.Course.{refusal};
+ghost use Rattle.emp_cert_text.specs.declared.read.CertFault.TheVariants as cert_words;
+ghost use Rattle.emp_cert_lines.specs.CertLines.{cert_line};
 ghost use Rattle.emp_command.specs.Requests.{asked_of};
 ghost use Rattle.emp_problem.specs.Class.{AnnotFits, GoalFits};
 ghost use Rattle.emp_cert_text.specs.Text.{cert_text};
@@ -15,7 +18,7 @@ use emp_ast::annot::Annot;
 use emp_ast::model::Model;
 use emp_cert::cert::Cert;
 use emp_cert_lines::lines;
-use emp_cert_text::read::read;
+use emp_cert_text::read::{CertFault, read};
 use emp_cert_text::upgrade::upgrade;
 use emp_cert_text::write::WriteFault;
 use emp_check::check::check as tested;
@@ -46,6 +49,13 @@ fn test(model: &Model, annot: &Annot, ready: Ready, cert: Cert) -> Tried
     }
 }
 
+/// The refusal of a text that is no certificate's.
+fn text_refusal(fault: CertFault) -> Result<Answer, NoMemory>
+    ensures { IfOk result (λ a. (fault ≢ cert_words.NoMemory) × (outcome_of a ≡ refusal 22 (cert_line fault))) }
+{
+    refused(22, lines::cert_line(fault))
+}
+
 /// The certificate of this text, where it is one of the file's rows and is accepted.
 fn of_text(
     alloc: Global,
@@ -61,7 +71,7 @@ fn of_text(
     match read(alloc, text) {
         Ok(cert) => Ok(test(model, annot, ready, cert)),
         Err(fault) => {
-            let answer = refused(22, lines::cert_line(fault))?;
+            let answer = text_refusal(fault)?;
             Ok(Tried::Refused(answer))
         }
     }
@@ -101,12 +111,7 @@ fn said(alloc: Global, files: Vec<Stored>, line: &Line) -> Result<Answer, NoMemo
 }
 
 /// What `check` answers over a model, an annotation of it and the text of a certificate.
-pub fn check(
-    alloc: Global,
-    model: &Model,
-    annot: &Annot,
-    text: &[u8],
-) -> Result<Answer, NoMemory>
+pub fn check(alloc: Global, model: &Model, annot: &Annot, text: &[u8]) -> Result<Answer, NoMemory>
     requires variables { length model.now.variables < 4294967296 }
     requires equations { length model.now.equations < 4294967296 }
     requires blocks { length annot.now.blocks < 4294967296 }
@@ -116,7 +121,11 @@ pub fn check(
     ensures { IfOk result (λ a. Checks model.now annot.now text.now (outcome_of a)) }
 {
     match certificate_of(alloc, model, annot, text)? {
-        Tried::Accepted(_, cert) => said(alloc, Vec::new(alloc), &lines::accepted_line(&cert.verdict)),
+        Tried::Accepted(_, cert) => said(
+            alloc,
+            Vec::new(alloc),
+            &lines::accepted_line(&cert.verdict),
+        ),
         Tried::Refused(answer) => Ok(answer),
     }
 }

@@ -7,10 +7,10 @@ ghost use Rattle.emp_problem.specs.Class.{AnnotFits, GoalFits};
 ghost use Rattle.emp_walk.specs.Founds.{CertGives, FoundGives};
 ghost use Rattle.emp_walk.specs.declared.fault.WalkFault.TheVariants as walk_words;
 ghost use Rattle.emp_answers.specs.Answers.{Solves, walk_status, walk_line, cert_stores, CertFits};
-ghost use Rattle.emp_answers.specs.Outcomes.{outcome_of, report_of, Delivered, IsReady, StoresFail};
+ghost use Rattle.emp_answers.specs.Outcomes.{outcome_of, report_of, Delivered, IsReady, StoresFail, ValueRefused};
 
-use crate::said::Answer;
 use crate::reports::{Report, report_of};
+use crate::said::Answer;
 use crate::stated::{Ready, prepare, refusal_of};
 use emp_ast::annot::Annot;
 use emp_ast::model::Model;
@@ -92,6 +92,16 @@ fn deliver(
     }
 }
 
+/// The refusal of a point one of whose values is wide.
+fn fill_refusal(model: &Model, fault: FillFault) -> Result<Answer, NoMemory>
+    ensures { IfOk result (λ a. ValueRefused model.now fault (outcome_of a)) }
+{
+    match fault {
+        FillFault::Wide(variable) => Ok(Answer::Refusal(19, classes::value_line(model, variable))),
+        FillFault::NoMemory => Err(NoMemory),
+    }
+}
+
 /// What is answered where the search has ended.
 fn solve_found(
     alloc: Global,
@@ -108,10 +118,7 @@ fn solve_found(
 {
     match report_of(alloc, model, annot, ready, found) {
         Ok(report) => deliver(alloc, request, found, report),
-        Err(FillFault::Wide(variable)) => {
-            Ok(Answer::Refusal(19, classes::value_line(model, variable)))
-        }
-        Err(FillFault::NoMemory) => Err(NoMemory),
+        Err(fault) => fill_refusal(model, fault),
     }
 }
 

@@ -1,5 +1,5 @@
 -- The row system of a file, or why it has none.
-use Rattle.std.specs.Prelude.{◌≡◌, ℕ, Result, Ok, Err}
+use Rattle.std.specs.Prelude.{Result, Ok, Err}
 use Rattle.emp_ast.specs.declared.model.Model.{Model}
 use Rattle.emp_ast.specs.declared.annot.Annot.{Annot}
 use Rattle.emp_problem.specs.declared.problem.AgentProblem.{AgentProblem}
@@ -23,15 +23,15 @@ pub record IsStated (m : Model) (a : Annot) (s : Stated) : Type 0 where
   pub rows : KktGives s.problem (Ok s.system)
 
 -- a file of the class whose problem has the fault
-pub record HasUnfit (m : Model) (a : Annot) (P : AgentProblem → Type 0) : Type 0 where
+pub record HasUnfit (m : Model) (a : Annot) (ends : AgentProblem → Type 0) : Type 0 where
   pub class : IsClassFile m a
   pub problem : AgentProblem
   pub is : IsProblemOf m a problem
-  pub fault : P problem
+  pub fault : ends problem
 
 -- its agents are convex, and its rows have the fault
 abbrev pub HasUnmade : Model → Annot → (AgentProblem → Type 0) → Type 0
-HasUnmade m a P = HasUnfit m a (λ pr. ShareGives pr (Ok tt) × P pr)
+HasUnmade m a fault = HasUnfit m a (λ pr. ShareGives pr (Ok tt) × fault pr)
 
 abbrev pub StateGives : Model → Annot → Result Stated StateFault → Type 0
 StateGives m a (Ok s) = IsStated m a s

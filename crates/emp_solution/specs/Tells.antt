@@ -1,6 +1,4 @@
 -- What a verdict on the row system of a file says of the file.
-use Rattle.std.specs.Prelude.{◌≡◌, ℕ, List}
-use Rattle.emp_num.specs.declared.frac.Frac.{Frac}
 use Rattle.emp_num.specs.Point.{Point, StandsFor}
 use Rattle.emp_ast.specs.declared.model.Model.{Model}
 use Rattle.emp_ast.specs.declared.annot.Annot.{Annot}

@@ -1,16 +1,23 @@
 //! The row system of a file.
-ghost use Rattle.std.specs.Prelude.{◌≡◌, ◌<◌, ◌≤◌, length, IfOk};
+ghost use Rattle.std.specs.Prelude.{◌≡◌, ◌<◌, ◌≤◌, length, Ok, Err, IfOk};
+ghost use Rattle.emp_ast.specs.declared.model.Model.{Model as File};
+ghost use Rattle.emp_ast.specs.declared.annot.Annot.{Annot as Note};
 ghost use Rattle.emp_owner.specs.Settled.{IsKept, AreOwned};
-ghost use Rattle.emp_problem.specs.Class.{AnnotFits, GoalFits};
+ghost use Rattle.emp_problem.specs.Class.{AnnotFits, GoalFits, IsClassFile};
+ghost use Rattle.emp_problem.specs.ProblemOf.{IsProblemOf};
+ghost use Rattle.emp_problem.specs.declared.problem.AgentProblem.{AgentProblem as Problem};
+ghost use Rattle.emp_subst.specs.Subst.{SubstGives};
+ghost use Rattle.emp_share.specs.Share.{ShareGives};
+ghost use Rattle.emp_kkt.specs.Gives.{IsFit, KktGives};
 ghost use Rattle.emp_solution.specs.Stated.{StateGives};
 
 use emp_ast::annot::Annot;
 use emp_ast::model::Model;
 use emp_ast::tree::{EquId, VarId};
+use emp_kkt::make::KktFault;
 use emp_owner::owned::Owned;
 use emp_poly::tree::PolyFault;
 use emp_problem::problem::AgentProblem;
-use emp_kkt::make::KktFault;
 use emp_rows::system::RowSystem;
 use emp_share::share::{ShareFault, convex_agents};
 use emp_subst::fault::SubstFault;
@@ -44,7 +51,9 @@ pub struct Stated {
 }
 
 /// A fault of the problem as one of the file.
-fn of_subst(fault: SubstFault) -> StateFault {
+fn of_subst(fault: SubstFault) -> StateFault
+    ensures { (m : File) (a : Note) → SubstGives m a (Err fault) → StateGives m a (Err result) }
+{
     match fault {
         SubstFault::Poly(fault) => StateFault::Poly(fault),
         SubstFault::Quadratic(equation, first, second) => {
@@ -56,7 +65,9 @@ fn of_subst(fault: SubstFault) -> StateFault {
 }
 
 /// A fault of an agent as one of the file.
-fn of_share(fault: ShareFault) -> StateFault {
+fn of_share(fault: ShareFault) -> StateFault
+    ensures { (m : File) (a : Note) (pr : Problem) → IsClassFile m a → IsProblemOf m a pr → ShareGives pr (Err fault) → StateGives m a (Err result) }
+{
     match fault {
         ShareFault::NotConvex(block, k) => StateFault::NotConvex(block, k),
         ShareFault::WideCurve(block, k) => StateFault::WideCurve(block, k),
@@ -65,7 +76,9 @@ fn of_share(fault: ShareFault) -> StateFault {
 }
 
 /// A fault of the rows as one of the file.
-fn of_kkt(fault: KktFault) -> StateFault {
+fn of_kkt(fault: KktFault) -> StateFault
+    ensures { (m : File) (a : Note) (pr : Problem) → IsClassFile m a → IsProblemOf m a pr → ShareGives pr (Ok tt) → KktGives pr (Err fault) → StateGives m a (Err result) }
+{
     match fault {
         KktFault::TooLarge => StateFault::TooLarge,
         KktFault::WideRow(row) => StateFault::WideRow(row),
@@ -75,6 +88,9 @@ fn of_kkt(fault: KktFault) -> StateFault {
 
 /// The row system of a problem whose agents are convex.
 fn with_rows(alloc: Global, problem: AgentProblem) -> Result<Stated, StateFault>
+    requires fit { IsFit problem }
+    ensures gives { (m : File) (a : Note) → IsClassFile m a → IsProblemOf m a problem → ShareGives problem (Ok tt) → StateGives m a result }
+    ensures base { IfOk result (λ s. length s.problem.variables ≤ s.system.base) }
 {
     match emp_kkt::make::make(alloc, &problem) {
         Ok(system) => Ok(Stated { problem, system }),
@@ -84,6 +100,9 @@ fn with_rows(alloc: Global, problem: AgentProblem) -> Result<Stated, StateFault>
 
 /// The row system of a problem, once its agents are tested.
 fn tested(alloc: Global, problem: AgentProblem) -> Result<Stated, StateFault>
+    requires fit { IsFit problem }
+    ensures gives { (m : File) (a : Note) → IsClassFile m a → IsProblemOf m a problem → StateGives m a result }
+    ensures base { IfOk result (λ s. length s.problem.variables ≤ s.system.base) }
 {
     match convex_agents(alloc, &problem) {
         Ok(()) => with_rows(alloc, problem),

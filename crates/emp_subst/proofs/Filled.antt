@@ -50,7 +50,7 @@ use Rattle.emp_subst.proofs.Values.{fold_means}
 use Rattle.emp_subst.proofs.Defined.{solved_of}
 
 -- ---- the values by all variables
-spread_count : (m : Model) (a : Annot) (values : List Frac) (at next : ℕ) (xs : List Variable) → length (spread_from m a values at next xs) ≡ length xs
+pub spread_count : (m : Model) (a : Annot) (values : List Frac) (at next : ℕ) (xs : List Variable) → length (spread_from m a values at next xs) ≡ length xs
 spread_count m a values at next [] = refl
 spread_count m a values at next (x ∷ xs) = go (is_defined m a at) (spread_count m a values (at + 1) next xs) (spread_count m a values (at + 1) (next + 1) xs)
   where

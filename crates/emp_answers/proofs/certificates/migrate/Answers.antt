@@ -1,17 +1,13 @@
-use Rattle.std.proofs.Common.{rules, ◌≡◌, ◌<◌, ◌≤◌, List, ℕ, length, map, IfOk, ◌+◌, ◌-◌, ◌*◌, ◌/◌, ◌%◌, Bool, true, false, nat_eq, nat_lt, [], ◌∷◌, ◌++◌, slice_index_or, slice_set, bit_and, bit_or, Fits, w8, w32, w64, Bor, MutBor}
-use Rattle.emp_command.specs.Requests.{asked_of}
-use Rattle.emp_problem.specs.Class.{AnnotFits, GoalFits}
-use Rattle.emp_cert_text.specs.Text.{cert_text}
-use Rattle.emp_check.specs.Checks.{SizesAre}
-use Rattle.emp_command.specs.Deliveries.{stored_of}
-use Rattle.emp_answers.specs.Answers.{Checks, Migrates}
-use Rattle.emp_answers.specs.Outcomes.{outcome_of, IsReady, AcceptGives, StoredAnew}
+use Rattle.std.proofs.Common.{subst}
+use Rattle.emp_answers.specs.Answers.{unmigrated}
+use Rattle.emp_answers.specs.Outcomes.{outcome_of, AcceptGives}
+use Rattle.emp_answers.proofs.Certifying.{anew_migrates}
 use Rattle.emp_answers.proofs.certificates.migrate.Goals as goal
 
--- src/certificates.rt:138:1
 pub returns-in-Accepted : goal.returns-in-Accepted
-returns-in-Accepted c = ?
+returns-in-Accepted c =
+    let h = subst (AcceptGives c.args.model.now c.args.annot.now c.args.text.now) c.in-Accepted.is c.in_ok-ready.ensures in
+    anew_migrates c.stored_anew.result c.args.model.now c.args.annot.now c.args.text.now c.args.name.now c.in-Accepted.ready.stated c.in-Accepted.cert h.1 c.stored_anew.ensures
 
--- src/certificates.rt:138:1
 pub returns-in-Refused : goal.returns-in-Refused
-returns-in-Refused c = ?
+returns-in-Refused c = unmigrated (outcome_of c.in-Refused.answer) (subst (AcceptGives c.args.model.now c.args.annot.now c.args.text.now) c.in-Refused.is c.in_ok-ready.ensures)

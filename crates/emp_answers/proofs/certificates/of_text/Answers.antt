@@ -1,17 +1,9 @@
-use Rattle.std.proofs.Common.{rules, ◌≡◌, ◌<◌, ◌≤◌, List, ℕ, length, map, IfOk, ◌+◌, ◌-◌, ◌*◌, ◌/◌, ◌%◌, Bool, true, false, nat_eq, nat_lt, [], ◌∷◌, ◌++◌, slice_index_or, slice_set, bit_and, bit_or, Fits, w8, w32, w64, Bor, MutBor}
-use Rattle.emp_command.specs.Requests.{asked_of}
-use Rattle.emp_problem.specs.Class.{AnnotFits, GoalFits}
-use Rattle.emp_cert_text.specs.Text.{cert_text}
-use Rattle.emp_check.specs.Checks.{SizesAre}
-use Rattle.emp_command.specs.Deliveries.{stored_of}
-use Rattle.emp_answers.specs.Answers.{Checks, Migrates}
-use Rattle.emp_answers.specs.Outcomes.{outcome_of, IsReady, AcceptGives, StoredAnew}
+use Rattle.emp_answers.proofs.Certifying.{text_refused}
+use Rattle.emp_answers.specs.Outcomes.{outcome_of}
 use Rattle.emp_answers.proofs.certificates.of_text.Goals as goal
 
--- src/certificates.rt:50:1
 pub returns-in-Ok : goal.returns-in-Ok
-returns-in-Ok c = ?
+returns-in-Ok c = c.test.ensures c.args.text.now c.in-Ok.ensures.text
 
--- src/certificates.rt:50:1
 pub returns-in_ok-answer-in-Err : goal.returns-in_ok-answer-in-Err
-returns-in_ok-answer-in-Err c = ?
+returns-in_ok-answer-in-Err c = text_refused c.args.model.now c.args.annot.now c.args.text.now c.args.ready.stated c.in-Err.fault (outcome_of c.in_ok-answer-in-Err.answer) c.requires.ready.stated c.requires.text c.in-Err.ensures.fault c.in_ok-answer-in-Err.ensures

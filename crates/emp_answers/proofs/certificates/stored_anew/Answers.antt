@@ -1,17 +1,13 @@
-use Rattle.std.proofs.Common.{rules, ◌≡◌, ◌<◌, ◌≤◌, List, ℕ, length, map, IfOk, ◌+◌, ◌-◌, ◌*◌, ◌/◌, ◌%◌, Bool, true, false, nat_eq, nat_lt, [], ◌∷◌, ◌++◌, slice_index_or, slice_set, bit_and, bit_or, Fits, w8, w32, w64, Bor, MutBor}
-use Rattle.emp_command.specs.Requests.{asked_of}
-use Rattle.emp_problem.specs.Class.{AnnotFits, GoalFits}
-use Rattle.emp_cert_text.specs.Text.{cert_text}
-use Rattle.emp_check.specs.Checks.{SizesAre}
-use Rattle.emp_command.specs.Deliveries.{stored_of}
-use Rattle.emp_answers.specs.Answers.{Checks, Migrates}
-use Rattle.emp_answers.specs.Outcomes.{outcome_of, IsReady, AcceptGives, StoredAnew}
+use Rattle.std.proofs.Common.{subst, Some}
+use Rattle.emp_answers.specs.Outcomes.{StoresFail}
+use Rattle.emp_cert_text.specs.Upgrading.{IsUpgrade}
+use Rattle.emp_answers.proofs.Certifying.{stored_said, stored_long, members_are_numbers}
 use Rattle.emp_answers.proofs.certificates.stored_anew.Goals as goal
 
--- src/certificates.rt:128:1
 pub returns-in-Ok : goal.returns-in-Ok
-returns-in-Ok c = ?
+returns-in-Ok c =
+    stored_said c.said.result c.args.ready.now.stated.system c.args.cert c.in_ok-cert.cert c.args.name.now _ _
+    (subst (λ ps. IsUpgrade c.args.cert ps c.in_ok-cert.cert) c.as_slice.ensures c.in_ok-cert.ensures) c.in-Ok.ensures.files c.in-Ok.ensures.fits c.migrated_line.ensures c.said.ensures
 
--- src/certificates.rt:128:1
 pub returns-in-Err-TooLong : goal.returns-in-Err-TooLong
-returns-in-Err-TooLong c = ?
+returns-in-Err-TooLong c = stored_long c.args.ready.now.stated.system c.args.cert c.in_ok-cert.cert c.args.name.now _ (subst (λ ps. IsUpgrade c.args.cert ps c.in_ok-cert.cert) c.as_slice.ensures c.in_ok-cert.ensures) (subst (StoresFail (Some c.args.name.now) c.in_ok-cert.cert) c.in-Err-TooLong.field-0-is c.in-Err-TooLong.ensures.fault) c.long_line.ensures

@@ -1,5 +1,4 @@
 use Rattle.emp_command.specs.Requests.{asked_of, word_of}
-use Rattle.std.proofs.Common.{refl}
 use Rattle.emp_answers.specs.Outcomes.{report_of}
 use Rattle.emp_answers.proofs.Solving.{delivered_answer, unfilled_answer}
 use Rattle.emp_answers.proofs.solve.solve_found.Goals as goal
@@ -7,5 +6,5 @@ use Rattle.emp_answers.proofs.solve.solve_found.Goals as goal
 pub returns-in-Ok : goal.returns-in-Ok
 returns-in-Ok c = delivered_answer c.deliver.result c.args.model.now c.args.annot.now (asked_of c.args.request.now) c.args.ready.now.stated c.args.found.now (report_of c.in-Ok.report) c.requires.ready.stated c.requires.found c.in-Ok.ensures c.deliver.ensures
 
-pub returns-in-Err-Wide : goal.returns-in-Err-Wide
-returns-in-Err-Wide c = ?
+pub returns-in-Err : goal.returns-in-Err
+returns-in-Err c = unfilled_answer c.fill_refusal.result c.args.model.now c.args.annot.now (asked_of c.args.request.now) c.args.ready.now.stated c.args.found.now c.in-Err.fault c.requires.ready.stated c.requires.found c.in-Err.ensures c.fill_refusal.ensures

@@ -1,0 +1,4 @@
+pub mod Fit
+pub mod Rows
+pub mod Tells
+pub mod Back
