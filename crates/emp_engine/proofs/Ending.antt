@@ -5,14 +5,15 @@ use Rattle.emp_command.specs.declared.refusal.Refusal.{Refusal}
 use Rattle.emp_command.specs.declared.refusal.Refusal.TheVariants.{BadWords, BadWork, BadFirms, Unread, TooLong, Unwritten, NoMemory}
 use Rattle.emp_command.specs.Lines.{bad_words_line, too_long_line}
 use Rattle.emp_command.specs.Words.{Asked, Asks, IsPlain, solve, check, print, make, migrate, pieces}
-use Rattle.emp_command.specs.Course.{limit_of, IsInRange, FilesFit, IsReached, IsDue, bad_words, bad_work, bad_firms, unread, too_long, answered, no_memory, Delivers, whole, unsaid, unstored, NeedsNoMemory, Runs, delivered, cut_short}
+use Rattle.emp_command.specs.Course.{Outcome, refusal, limit_of, IsInRange, FilesFit, IsReached, IsDue, bad_words, bad_work, bad_firms, unread, too_long, answered, no_memory, StoresAll, StoresPart, Delivers, whole, unsaid, unstored, NeedsNoMemory, Runs, delivered, cut_short}
 use Rattle.emp_command.specs.Refusals.{line_of, status_of, IsLong, SomeUnloaded, HoldTexts, TextsFit}
 use Rattle.emp_command.specs.Deliveries.{SomeStoreRose}
 use Rattle.emp_command.proofs.Telling.{told_join, told_both, told_map, rose_first, rose_second}
 use Rattle.std.proofs.lemmas.Bool.{false≢true}
-use Rattle.emp_engine.specs.Outcomes.{AreTwoTexts}
-use Rattle.emp_engine.specs.Answers.{saying, is_built, Answers}
-use Rattle.emp_engine.specs.Run.{SomeLoadRose, IsStatus}
+use Rattle.emp_command.specs.declared.words.Verb.TheVariants.{Solve, Check, Print, Migrate}
+use Rattle.emp_answers.specs.Outcomes.{AreTexts, OutputFits}
+use Rattle.emp_answers.specs.Answers.{is_built, Answers}
+use Rattle.emp_engine.specs.Run.{SomeLoadRose, SomeWriteRose, IsStatus}
 use Rattle.emp_engine.specs.Ends.{SayCause, IsOutOfRange, IsRequest, Ends}
 
 keeps_then : (x y z : Contents) → KeepsAll x y → KeepsAll y z → KeepsAll x z
@@ -22,48 +23,69 @@ kept : (t : Option Contents) → Told KeepsAll t t
 kept None = tt
 kept (Some x) = record { files = λ name. refl; said = refl }
 
--- what is delivered after a step that changes nothing
-delivers_after : (status : ℕ) (text : List ℕ) (x y z : Contents) (end : ℕ) → KeepsAll x y → Delivers (saying status text) y z end → Delivers (saying status text) x z end
-delivers_after status text x y z end k (whole b st sa) = whole b (keeps_then x y b k st) sa
-delivers_after status text x y z end k (unsaid s b c st sa) = unsaid s b c (keeps_then x y b k st) sa
-delivers_after status text x y z end k (unstored s l b c i st sa) = absurd st
+-- ---- what is stored after a step that changes nothing
+stores_after : (ss : List (List ℕ × List ℕ)) (x y z : Contents) → KeepsAll x y → StoresAll ss y z → StoresAll ss x z
+stores_after [] x y z k h = keeps_then x y z k h
+stores_after (s ∷ ss) x y z k h = (h.0, record { here = h.1.here; others = λ name n. h.1.others name n ∙ k.files name; said = h.1.said ∙ k.said }, h.2)
+
+part_after : (ss : List (List ℕ × List ℕ)) (x y z : Contents) → KeepsAll x y → StoresPart ss y z → StoresPart ss x z
+part_after [] x y z k h = absurd h
+part_after (s ∷ ss) x y z k (inl h) = inl (record { here = h.here; others = λ name n. h.others name n ∙ k.files name; said = h.said ∙ k.said })
+part_after (s ∷ ss) x y z k (inr h) = inr (h.0, record { here = h.1.here; others = λ name n. h.1.others name n ∙ k.files name; said = h.1.said ∙ k.said }, h.2)
+
+delivers_after : (o : Outcome) (x y z : Contents) (end : ℕ) → KeepsAll x y → Delivers o y z end → Delivers o x z end
+delivers_after o x y z end k (whole b st sa) = whole b (stores_after o.stores x y b k st) sa
+delivers_after o x y z end k (unsaid s b c st sa) = unsaid s b c (stores_after o.stores x y b k st) sa
+delivers_after o x y z end k (unstored s l b c i st sa) = unstored s l b c i (part_after o.stores x y b k st) sa
 
 module _ (words : List (List ℕ)) (f0 f1 f2 : Place → ℕ) (t0 t1 t2 : Option Contents) (first : NoneFalls f0 f1) (keeps : Told KeepsAll t0 t1) where
-  abbrev DueNow : ℕ → List ℕ → Contents → Contents → Type 0
-  DueNow status text x y = IsDue Answers words f0 f2 x (saying status text)
+  abbrev DueNow : Outcome → Contents → Contents → Type 0
+  DueNow o x y = IsDue Answers words f0 f2 x o
 
   -- what is due, once it is delivered
-  course_of : (status : ℕ) (text : List ℕ) (end : ℕ) → Told (DueNow status text) t0 t1 → Told (λ x y. Delivers (saying status text) x y end) t1 t2 → Told (λ x y. Runs Answers words f0 f2 x y end) t0 t2
-  course_of status text end due del =
-      told_join (λ x y. DueNow status text x y × KeepsAll x y) (λ x y. Delivers (saying status text) x y end) (λ x y. Runs Answers words f0 f2 x y end)
-      (λ x y z p d. delivered (saying status text) end p.0 (delivers_after status text x y z end p.1 d)) t0 t1 t2
-      (told_both (DueNow status text) KeepsAll (λ x y. DueNow status text x y × KeepsAll x y) (λ x y d k. (d, k)) t0 t1 due keeps) del
+  course_of : (o : Outcome) (end : ℕ) → Told (DueNow o) t0 t1 → Told (λ x y. Delivers o x y end) t1 t2 → Told (λ x y. Runs Answers words f0 f2 x y end) t0 t2
+  course_of o end due del =
+      told_join (λ x y. DueNow o x y × KeepsAll x y) (λ x y. Delivers o x y end) (λ x y. Runs Answers words f0 f2 x y end)
+      (λ x y z p d. delivered o end p.0 (delivers_after o x y z end p.1 d)) t0 t1 t2
+      (told_both (DueNow o) KeepsAll (λ x y. DueNow o x y × KeepsAll x y) (λ x y d k. (d, k)) t0 t1 due keeps) del
 
-  abbrev Cause : ℕ → ℕ → Type 0
-  Cause status end = SayCause status end f1 f2
+  -- the files that are stored are ones that the words name to be written
+  abbrev Writes : Outcome → Type 0
+  Writes o = SomeStoreRose o.stores f1 f2 → SomeWriteRose words f0 f2
 
-  unread_of : (status end : ℕ) → (status ≡ 11 → SomeLoadRose words f0 f2) → Cause status end → end ≡ 11 → SomeLoadRose words f0 f2
-  unread_of status end rose (inl e) h = rose (sym e ∙ h)
-  unread_of status end rose (inr (inl e)) h = absurd (omega arith)
-  unread_of status end rose (inr (inr e)) h = absurd (let k = e.0 in omega arith)
+  abbrev Cause : Outcome → ℕ → Type 0
+  Cause o end = SayCause o end f1 f2
 
-  unsaid_of : (status end : ℕ) → status ≢ 12 → Cause status end → end ≡ 12 → Rose (f0 output) (f2 output)
-  unsaid_of status end n (inl e) h = absurd (n (sym e ∙ h))
-  unsaid_of status end n (inr (inl e)) h = absurd (omega arith)
-  unsaid_of status end n (inr (inr e)) h = rose_second (f0 output) (f1 output) (f2 output) e.1 (first output)
+  unread_of : (o : Outcome) (end : ℕ) → (o.status ≡ 11 → SomeLoadRose words f0 f2) → Cause o end → end ≡ 11 → SomeLoadRose words f0 f2
+  unread_of o end rose (inl e) h = rose (sym e ∙ h)
+  unread_of o end rose (inr (inl e)) h = absurd (omega arith)
+  unread_of o end rose (inr (inr e)) h = absurd (let k = e.0 in omega arith)
 
-  status_answers : (status end : ℕ) → IsStatus status → Cause status end → IsStatus end
-  status_answers status end s (inl e) = subst IsStatus (sym e) s
-  status_answers status end s (inr (inl e)) = subst IsStatus (sym e) refl
-  status_answers status end s (inr (inr e)) = subst IsStatus (sym e.0) refl
+  rose_out : (o : Outcome) → Writes o → SomeStoreRose o.stores f1 f2 ⊎ Rose (f1 output) (f2 output) → SomeWriteRose words f0 f2
+  rose_out o w (inl h) = w h
+  rose_out o w (inr h) = inl (rose_second (f0 output) (f1 output) (f2 output) h (first output))
 
-  pub delivered_ends : (status : ℕ) (text : List ℕ) (end : ℕ) → IsStatus status → status ≢ 12 → (status ≡ 11 → SomeLoadRose words f0 f2) → Told (DueNow status text) t0 t1 → Told (λ x y. Delivers (saying status text) x y end) t1 t2 → Cause status end → Ends words f0 f2 t0 t2 end
-  delivered_ends status text end s n rose due del cause = record {
-    course = course_of status text end due del;
-    unread = unread_of status end rose cause;
-    unsaid = unsaid_of status end n cause;
-    answers = status_answers status end s cause;
+  unwritten_of : (o : Outcome) (end : ℕ) → o.status ≢ 12 → Writes o → Cause o end → end ≡ 12 → SomeWriteRose words f0 f2
+  unwritten_of o end n w (inl e) h = absurd (n (sym e ∙ h))
+  unwritten_of o end n w (inr (inl e)) h = absurd (omega arith)
+  unwritten_of o end n w (inr (inr e)) h = rose_out o w e.1
+
+  status_answers : (o : Outcome) (end : ℕ) → IsStatus o.status → Cause o end → IsStatus end
+  status_answers o end s (inl e) = subst IsStatus (sym e) s
+  status_answers o end s (inr (inl e)) = subst IsStatus (sym e) refl
+  status_answers o end s (inr (inr e)) = subst IsStatus (sym e.0) refl
+
+  pub delivered_ends : (o : Outcome) (end : ℕ) → IsStatus o.status → o.status ≢ 12 → (o.status ≡ 11 → SomeLoadRose words f0 f2) → Writes o → Told (DueNow o) t0 t1 → Told (λ x y. Delivers o x y end) t1 t2 → Cause o end → Ends words f0 f2 t0 t2 end
+  delivered_ends o end s n rose w due del cause = record {
+    course = course_of o end due del;
+    unread = unread_of o end rose cause;
+    unwritten = unwritten_of o end n w cause;
+    answers = status_answers o end s cause;
   }
+
+  -- nothing is stored with a refusal
+  no_writes : (status : ℕ) (line : List ℕ) → Writes (refusal status line)
+  no_writes status line h = absurd h
 
   -- ---- files that are not loaded
   module _ (second : NoneFalls f1 f2) (r : Asked) (asks : Asks words r) (range : IsInRange r) where
@@ -73,20 +95,20 @@ module _ (words : List (List ℕ)) (f0 f1 f2 : Place → ℕ) (t0 t1 t2 : Option
     reached : (x : Contents) (k : ℕ) (name : List ℕ) (earlier later : List (List ℕ)) → r.files ≡ earlier ++ name ∷ later → k ≡ length earlier + 1 → FilesFit x 1 earlier → IsReached x r k name
     reached x k name earlier later e n f = record { earlier = earlier; later = later; files = e; number = n; fit = f }
 
-    long_due : (x : Contents) (k most file : ℕ) (name : List ℕ) → most ≡ limit_of k → file ≡ k → IsReached x r k name → limit_of k < length (x.holds name) → DueNow 13 (too_long_line file most) x x
-    long_due x k most file name e f g l = subst (λ n. DueNow 13 (too_long_line n most) x x) (sym f) (subst (λ n. DueNow 13 (too_long_line k n) x x) (sym e) (too_long r k name asks range g l))
+    long_due : (x : Contents) (k most file : ℕ) (name : List ℕ) → most ≡ limit_of k → file ≡ k → IsReached x r k name → limit_of k < length (x.holds name) → DueNow (refusal 13 (too_long_line file most)) x x
+    long_due x k most file name e f g l = subst (λ n. DueNow (refusal 13 (too_long_line n most)) x x) (sym f) (subst (λ n. DueNow (refusal 13 (too_long_line k n)) x x) (sym e) (too_long r k name asks range g l))
 
-    unloaded_due : (f : Refusal) → SomeUnloaded r.files f0 f1 t0 t1 f → Told (DueNow (status_of f) (line_of f)) t0 t1
+    unloaded_due : (f : Refusal) → SomeUnloaded r.files f0 f1 t0 t1 f → Told (DueNow (refusal (status_of f) (line_of f))) t0 t1
     unloaded_due BadWords h = absurd h.why
     unloaded_due BadWork h = absurd h.why
     unloaded_due BadFirms h = absurd h.why
     unloaded_due Unwritten h = absurd h.why
-    unloaded_due NoMemory h = told_map KeepsAll (DueNow 21 (line_of NoMemory)) (λ x y k. no_memory r asks range) t0 t1 keeps
+    unloaded_due NoMemory h = told_map KeepsAll (DueNow (refusal 21 (line_of NoMemory))) (λ x y k. no_memory r asks range) t0 t1 keeps
     unloaded_due (Unread k) h =
-        told_map (λ x y. FilesFit x 1 h.earlier) (DueNow 11 (line_of (Unread k)))
+        told_map (λ x y. FilesFit x 1 h.earlier) (DueNow (refusal 11 (line_of (Unread k))))
         (λ x y f. unread r k h.name asks range (reached x k h.name h.earlier h.later h.files h.why.0 f) (rose_later (loads h.name) h.why.1)) t0 t1 h.fit
     unloaded_due (TooLong k most) h =
-        told_both (λ x y. FilesFit x 1 h.earlier) (IsLong h.name (length h.earlier + 1)) (DueNow 13 (line_of (TooLong k most)))
+        told_both (λ x y. FilesFit x 1 h.earlier) (IsLong h.name (length h.earlier + 1)) (DueNow (refusal 13 (line_of (TooLong k most))))
         (λ x y f l. long_due x (length h.earlier + 1) most k h.name h.why.1 h.why.0 (reached x (length h.earlier + 1) h.name h.earlier h.later h.files refl f) l) t0 t1 h.fit h.why.2
 
     unloaded_status : (f : Refusal) → SomeUnloaded r.files f0 f1 t0 t1 f → IsStatus (status_of f) × (status_of f ≢ 12) × (status_of f ≡ 11 → SomeLoadRose words f0 f2)
@@ -98,22 +120,22 @@ module _ (words : List (List ℕ)) (f0 f1 f2 : Place → ℕ) (t0 t1 t2 : Option
     unloaded_status (TooLong k most) h = (refl, (λ e. omega arith), (λ e. absurd (omega arith)))
     unloaded_status (Unread k) h = (refl, (λ e. omega arith), (λ e. (r, h.earlier, h.name, h.later, asks, h.files, rose_later (loads h.name) h.why.1)))
 
-    pub unloaded_ends : (f : Refusal) (end : ℕ) → SomeUnloaded r.files f0 f1 t0 t1 f → Told (λ x y. Delivers (saying (status_of f) (line_of f)) x y end) t1 t2 → Cause (status_of f) end → Ends words f0 f2 t0 t2 end
-    unloaded_ends f end h del cause = let s = unloaded_status f h in delivered_ends (status_of f) (line_of f) end s.0 s.1 s.2 (unloaded_due f h) del cause
+    pub unloaded_ends : (f : Refusal) (end : ℕ) → SomeUnloaded r.files f0 f1 t0 t1 f → Told (λ x y. Delivers (refusal (status_of f) (line_of f)) x y end) t1 t2 → Cause (refusal (status_of f) (line_of f)) end → Ends words f0 f2 t0 t2 end
+    unloaded_ends f end h del cause = let s = unloaded_status f h in delivered_ends (refusal (status_of f) (line_of f)) end s.0 s.1 s.2 (no_writes (status_of f) (line_of f)) (unloaded_due f h) del cause
 
     -- no memory for the answer
-    pub starved_ends : (end : ℕ) → Told (λ x y. Delivers (saying 21 (line_of NoMemory)) x y end) t1 t2 → Cause 21 end → Ends words f0 f2 t0 t2 end
+    pub starved_ends : (end : ℕ) → Told (λ x y. Delivers (refusal 21 (line_of NoMemory)) x y end) t1 t2 → Cause (refusal 21 (line_of NoMemory)) end → Ends words f0 f2 t0 t2 end
     starved_ends end del cause =
-        delivered_ends 21 (line_of NoMemory) end refl (λ e. omega arith) (λ e. absurd (omega arith)) (told_map KeepsAll (DueNow 21 (line_of NoMemory)) (λ x y k. no_memory r asks range) t0 t1 keeps) del cause
+        delivered_ends (refusal 21 (line_of NoMemory)) end refl (λ e. omega arith) (λ e. absurd (omega arith)) (no_writes 21 (line_of NoMemory)) (told_map KeepsAll (DueNow (refusal 21 (line_of NoMemory))) (λ x y k. no_memory r asks range) t0 t1 keeps) del cause
 
 -- ---- words that are not plain, and numbers out of range
 module _ (words : List (List ℕ)) (f0 f2 : Place → ℕ) (t0 t2 : Option Contents) where
   abbrev Refused : Refusal → ℕ → Type 0
   Refused f end = ((end ≡ 12) × Rose (f0 output) (f2 output)) ⊎ (end ≡ status_of f)
 
-  refused_runs : (f : Refusal) (end : ℕ) → NeedsNoMemory words → (status_of f ≡ 10) ⊎ (status_of f ≡ 24) → ((x : Contents) → IsDue Answers words f0 f2 x (saying (status_of f) (line_of f))) → Refused f end → (x y : Contents) → SaysPrefix (line_of f) x y → Runs Answers words f0 f2 x y end
-  refused_runs f end need kind due (inl h) x y s = delivered (saying (status_of f) (line_of f)) end (due x) (unsaid end x (inl h.0) (record { files = λ name. refl; said = refl }) s)
-  refused_runs f end need kind due (inr e) x y s = subst (Runs Answers words f0 f2 x y) (sym e) (cut_short (saying (status_of f) (line_of f)) need kind (due x) s)
+  refused_runs : (f : Refusal) (end : ℕ) → NeedsNoMemory words → (status_of f ≡ 10) ⊎ (status_of f ≡ 24) → ((x : Contents) → IsDue Answers words f0 f2 x (refusal (status_of f) (line_of f))) → Refused f end → (x y : Contents) → SaysPrefix (line_of f) x y → Runs Answers words f0 f2 x y end
+  refused_runs f end need kind due (inl h) x y s = delivered (refusal (status_of f) (line_of f)) end (due x) (unsaid end x (inl h.0) (record { files = λ name. refl; said = refl }) s)
+  refused_runs f end need kind due (inr e) x y s = subst (Runs Answers words f0 f2 x y) (sym e) (cut_short (refusal (status_of f) (line_of f)) need kind (due x) s)
 
   ten_or : (s : ℕ) → (s ≡ 10) ⊎ (s ≡ 24) → IsStatus s × (s ≢ 11) × (s ≢ 12)
   ten_or s (inl e) = (subst IsStatus (sym e) refl, (λ h. omega arith), (λ h. omega arith))
@@ -123,19 +145,19 @@ module _ (words : List (List ℕ)) (f0 f2 : Place → ℕ) (t0 t2 : Option Conte
   refused_unread f end n (inl h) e = absurd (let k = h.0 in omega arith)
   refused_unread f end n (inr h) e = absurd (n (sym h ∙ e))
 
-  refused_unsaid : (f : Refusal) (end : ℕ) → status_of f ≢ 12 → Refused f end → end ≡ 12 → Rose (f0 output) (f2 output)
-  refused_unsaid f end n (inl h) e = h.1
-  refused_unsaid f end n (inr h) e = absurd (n (sym h ∙ e))
+  refused_unwritten : (f : Refusal) (end : ℕ) → status_of f ≢ 12 → Refused f end → end ≡ 12 → SomeWriteRose words f0 f2
+  refused_unwritten f end n (inl h) e = inl h.1
+  refused_unwritten f end n (inr h) e = absurd (n (sym h ∙ e))
 
   refused_answers : (f : Refusal) (end : ℕ) → IsStatus (status_of f) → Refused f end → IsStatus end
   refused_answers f end s (inl h) = subst IsStatus (sym h.0) refl
   refused_answers f end s (inr h) = subst IsStatus (sym h) s
 
-  pub refused_ends : (f : Refusal) (end : ℕ) → NeedsNoMemory words → (status_of f ≡ 10) ⊎ (status_of f ≡ 24) → ((x : Contents) → IsDue Answers words f0 f2 x (saying (status_of f) (line_of f))) → Told (SaysPrefix (line_of f)) t0 t2 → Refused f end → Ends words f0 f2 t0 t2 end
+  pub refused_ends : (f : Refusal) (end : ℕ) → NeedsNoMemory words → (status_of f ≡ 10) ⊎ (status_of f ≡ 24) → ((x : Contents) → IsDue Answers words f0 f2 x (refusal (status_of f) (line_of f))) → Told (SaysPrefix (line_of f)) t0 t2 → Refused f end → Ends words f0 f2 t0 t2 end
   refused_ends f end need kind due said h = record {
     course = told_map (SaysPrefix (line_of f)) (λ x y. Runs Answers words f0 f2 x y end) (refused_runs f end need kind due h) t0 t2 said;
     unread = refused_unread f end (ten_or (status_of f) kind).1 h;
-    unsaid = refused_unsaid f end (ten_or (status_of f) kind).2 h;
+    unwritten = refused_unwritten f end (ten_or (status_of f) kind).2 h;
     answers = refused_answers f end (ten_or (status_of f) kind).0 h;
   }
 
@@ -151,41 +173,44 @@ module _ (words : List (List ℕ)) (f0 f2 : Place → ℕ) (t0 t2 : Option Conte
   out_of_range_ends r Unwritten end asks out said h = absurd out
   out_of_range_ends r NoMemory end asks out said h = absurd out
 
--- ---- an answer over the texts
-module _ (words : List (List ℕ)) (f0 f1 f2 : Place → ℕ) (t0 t1 t2 : Option Contents) (first : NoneFalls f0 f1) (keeps : Told KeepsAll t0 t1) (r : Asked) (asks : Asks words r) (range : IsInRange r) where
-  answer_due : (texts : List (List ℕ)) (status : ℕ) (text : List ℕ) → Told (HoldTexts 1 r.files texts) t0 t1 → Answers r texts (saying status text) → Told (λ x y. IsDue Answers words f0 f2 x (saying status text)) t0 t1
-  answer_due texts status text hold ans =
-      told_map (HoldTexts 1 r.files texts) (λ x y. IsDue Answers words f0 f2 x (saying status text)) (λ x y h. answered r (saying status text) asks range h.fit (subst (λ ts. Answers r ts (saying status text)) h.texts_are ans)) t0 t1 hold
-
-  pub answered_ends : (texts : List (List ℕ)) (status : ℕ) (text : List ℕ) (end : ℕ) → IsStatus status → status ≢ 12 → status ≢ 11 → Told (HoldTexts 1 r.files texts) t0 t1 → Answers r texts (saying status text) → Told (λ x y. Delivers (saying status text) x y end) t1 t2 → SayCause status end f1 f2 → Ends words f0 f2 t0 t2 end
-  answered_ends texts status text end s n m hold ans del cause = delivered_ends words f0 f1 f2 t0 t1 t2 first keeps status text end s n (λ e. absurd (m e)) (answer_due texts status text hold ans) del cause
-
 -- ---- the texts of a request that is built
-two_files : (r : Asked) → (words : List (List ℕ)) → Asks words r → is_built r ≡ true → length r.files ≡ 2
-two_files r words (solve m i os o n a b c) h = refl
-two_files r words (print m i a b) h = refl
-two_files r words (check m i c a b d) h = absurd (false≢true h)
-two_files r words (make t f seed firms os o a b c) h = absurd (false≢true h)
-two_files r words (migrate m i c o a b d e) h = absurd (false≢true h)
-two_files r words (pieces m i os n a b c) h = absurd (false≢true h)
+three_fit : (texts : List (List ℕ)) → length texts ≡ 3 → TextsFit 1 texts → AreTexts Check texts
+three_fit [] e f = absurd (omega (arith, e))
+three_fit (a ∷ []) e f = absurd (omega (arith, e))
+three_fit (a ∷ b ∷ []) e f = absurd (omega (arith, e))
+three_fit (a ∷ b ∷ c ∷ []) e f = record { model = a; info = b; rest = c ∷ []; are = refl; model_short = f.0; info_short = f.1.0; fits = (c, refl, f.1.1.0) }
+three_fit (a ∷ b ∷ c ∷ d ∷ ts) e f = absurd (omega (arith, e))
 
-of_two : (texts : List (List ℕ)) → length texts ≡ 2 → TextsFit 1 texts → AreTwoTexts texts
-of_two [] e f = absurd (omega (arith, e))
-of_two (a ∷ []) e f = absurd (omega (arith, e))
-of_two (a ∷ b ∷ []) e f = record { model = a; info = b; are = refl; model_short = f.0; info_short = f.1.0 }
-of_two (a ∷ b ∷ c ∷ ts) e f = absurd (omega (arith, e))
+two_fit : (texts : List (List ℕ)) → length texts ≡ 2 → TextsFit 1 texts → AreTexts Solve texts
+two_fit [] e f = absurd (omega (arith, e))
+two_fit (a ∷ []) e f = absurd (omega (arith, e))
+two_fit (a ∷ b ∷ []) e f = record { model = a; info = b; rest = []; are = refl; model_short = f.0; info_short = f.1.0; fits = refl }
+two_fit (a ∷ b ∷ c ∷ ts) e f = absurd (omega (arith, e))
 
-pub two_texts : (r : Asked) → IsRequest r → is_built r ≡ true → (texts : List (List ℕ)) → length texts ≡ length r.files → TextsFit 1 texts → AreTwoTexts texts
-two_texts r p b texts e f = of_two texts (e ∙ two_files r p.0 p.1 b) f
+as_print : (texts : List (List ℕ)) → AreTexts Solve texts → AreTexts Print texts
+as_print texts h = record { model = h.model; info = h.info; rest = h.rest; are = h.are; model_short = h.model_short; info_short = h.info_short; fits = h.fits }
 
--- ---- what a delivery without files says
-pub say_cause : (status end : ℕ) (f0 f1 : Place → ℕ) → (end ≡ status) ⊎ ((end ≡ 21) ⊎ ((end ≡ 12) × (SomeStoreRose [] f0 f1 ⊎ Rose (f0 output) (f1 output)))) → SayCause status end f0 f1
-say_cause status end f0 f1 (inl e) = inl e
-say_cause status end f0 f1 (inr (inl e)) = inr (inl e)
-say_cause status end f0 f1 (inr (inr e)) = inr (inr (e.0, rose e.1))
-  where
-    rose : SomeStoreRose [] f0 f1 ⊎ Rose (f0 output) (f1 output) → Rose (f0 output) (f1 output)
-    rose (inl h) = absurd h
-    rose (inr h) = h
+as_migrate : (texts : List (List ℕ)) → AreTexts Check texts → AreTexts Migrate texts
+as_migrate texts h = record { model = h.model; info = h.info; rest = h.rest; are = h.are; model_short = h.model_short; info_short = h.info_short; fits = h.fits }
 
-pub ruleset saying_ends = (say_cause)
+texts_fit : (words : List (List ℕ)) (r : Asked) → Asks words r → is_built r ≡ true → (texts : List (List ℕ)) → length texts ≡ length r.files → TextsFit 1 texts → AreTexts r.verb texts
+texts_fit words r (solve m i os o n a b c) h texts e f = two_fit texts e f
+texts_fit words r (print m i a b) h texts e f = as_print texts (two_fit texts e f)
+texts_fit words r (check m i c a b d) h texts e f = three_fit texts e f
+texts_fit words r (migrate m i c o a b d g) h texts e f = as_migrate texts (three_fit texts e f)
+texts_fit words r (make t k seed firms os o a b c) h texts e f = absurd (false≢true h)
+texts_fit words r (pieces m i os n a b c) h texts e f = absurd (false≢true h)
+
+pub request_texts : (r : Asked) → IsRequest r → is_built r ≡ true → (texts : List (List ℕ)) → length texts ≡ length r.files → TextsFit 1 texts → AreTexts r.verb texts
+request_texts r p b texts e f = texts_fit p.0 r p.1 b texts e f
+
+output_fits : (words : List (List ℕ)) (r : Asked) → Asks words r → OutputFits r.verb r.output
+output_fits words r (solve m i os o n a b c) = tt
+output_fits words r (print m i a b) = tt
+output_fits words r (check m i c a b d) = tt
+output_fits words r (migrate m i c o a b d g) = tt
+output_fits words r (make t k seed firms os o a b c) = tt
+output_fits words r (pieces m i os n a b c) = tt
+
+pub request_output : (r : Asked) → IsRequest r → OutputFits r.verb r.output
+request_output r p = output_fits p.0 r p.1

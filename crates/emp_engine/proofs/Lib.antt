@@ -1,6 +1,3 @@
-mod Blocks
-mod Answering
 mod Ending
-mod Headline
-mod Printing
+mod Statuses
 mod Saying

@@ -5,9 +5,10 @@ use Rattle.emp_command.specs.declared.words.Verb.TheVariants.{Make}
 use Rattle.emp_command.specs.declared.refusal.Refusal.{Refusal}
 use Rattle.emp_command.specs.declared.refusal.Refusal.TheVariants.{BadWords, BadWork, BadFirms, Unread, TooLong, Unwritten, NoMemory}
 use Rattle.emp_command.specs.Words.{Asked, Asks}
-use Rattle.emp_command.specs.Course.{Runs, IsWorkInRange, AreFirmsInRange}
-use Rattle.emp_engine.specs.Answers.{Answers}
-use Rattle.emp_engine.specs.Run.{SomeLoadRose, IsStatus}
+use Rattle.emp_command.specs.Course.{Outcome, Runs, IsWorkInRange, AreFirmsInRange}
+use Rattle.emp_command.specs.Deliveries.{SomeStoreRose}
+use Rattle.emp_answers.specs.Answers.{Answers}
+use Rattle.emp_engine.specs.Run.{SomeLoadRose, SomeWriteRose, IsStatus}
 
 abbrev pub IsOutOfRange : Asked → Refusal → Type 0
 IsOutOfRange r BadWords = ⊥
@@ -18,9 +19,9 @@ IsOutOfRange r (TooLong k n) = ⊥
 IsOutOfRange r Unwritten = ⊥
 IsOutOfRange r NoMemory = ⊥
 
--- why a say ended with this status: as it was to end, for want of memory, or as the output failed
-abbrev pub SayCause : ℕ → ℕ → (Place → ℕ) → (Place → ℕ) → Type 0
-SayCause status end f0 f1 = (end ≡ status) ⊎ ((end ≡ 21) ⊎ ((end ≡ 12) × Rose (f0 output) (f1 output)))
+-- why the delivery of an outcome ended with this status: as it was to end, for want of memory, or as a store or the output failed
+abbrev pub SayCause : Outcome → ℕ → (Place → ℕ) → (Place → ℕ) → Type 0
+SayCause o end f0 f1 = (end ≡ o.status) ⊎ ((end ≡ 21) ⊎ ((end ≡ 12) × (SomeStoreRose o.stores f0 f1 ⊎ Rose (f0 output) (f1 output))))
 
 -- a request that some words ask
 abbrev pub IsRequest : Asked → Type 0
@@ -29,5 +30,5 @@ IsRequest r = (words : List (List ℕ)) × Asks words r
 pub record Ends (words : List (List ℕ)) (f0 f1 : Place → ℕ) (t0 t1 : Option Contents) (end : ℕ) : Type 0 where
   pub course : Told (λ before after. Runs Answers words f0 f1 before after end) t0 t1
   pub unread : end ≡ 11 → SomeLoadRose words f0 f1
-  pub unsaid : end ≡ 12 → Rose (f0 output) (f1 output)
+  pub unwritten : end ≡ 12 → SomeWriteRose words f0 f1
   pub answers : IsStatus end

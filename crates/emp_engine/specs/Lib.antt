@@ -1,4 +1,4 @@
-pub mod Answers
+-- What the clauses of `run` say
 pub mod Run
-pub mod Outcomes
+-- What only helps proofs
 pub mod Ends

@@ -1,5 +1,5 @@
 -- What the clauses of `run` say, by the status that it answers.
-use Rattle.std.specs.Prelude.{◌≡◌, ◌≢◌, ◌⊎◌, ℕ, Bool, true, nat_eq, List, [], ◌∷◌, ◌++◌, codes, Result}
+use Rattle.std.specs.Prelude.{◌≡◌, ◌≢◌, ◌⊎◌, ℕ, Bool, true, false, nat_eq, bytes_eq, List, [], ◌∷◌, ◌++◌, map, codes, Option, Some, None}
 use Rattle.std.specs.List.{list_any}
 use Rattle.emp_num.specs.declared.frac.Frac.{Frac}
 use Rattle.emp_num.specs.Point.{Point, StandsFor}
@@ -7,8 +7,12 @@ use Rattle.emp_ast.specs.declared.model.Model.{Model}
 use Rattle.emp_ast.specs.declared.annot.Annot.{Annot}
 use Rattle.emp_ast.specs.Names.{variable_names}
 use Rattle.emp_ast.specs.Equilibrium.{IsEquilibrium}
-use Rattle.emp_desk.specs.Desk.{Place, loads, output, Contents, Says, Rose}
-use Rattle.emp_command.specs.Words.{Asked, Asks}
+use Rattle.emp_ast.specs.Bilevel.{IsBest, IsRay}
+use Rattle.emp_desk.specs.Desk.{Place, loads, stores, output, Contents, Says, Rose}
+use Rattle.emp_command.specs.declared.words.Verb.{Verb}
+use Rattle.emp_command.specs.declared.words.Verb.TheVariants.{Solve, Check, Print, Make, Migrate, Pieces}
+use Rattle.emp_command.specs.Words.{Asked, Asks, IsPlain}
+use Rattle.emp_command.specs.Course.{Outcome, IsInRange, FilesFit, StoresAll}
 use Rattle.gms_grammar.specs.declared.fault.ModelFault.{ModelFault}
 use Rattle.gms_grammar.specs.declared.fault.ModelFault.TheVariants as ModelWords
 use Rattle.gms_read.specs.Texts.{IsModelText, RefusesModel}
@@ -19,16 +23,24 @@ use Rattle.info_read.specs.Texts.{IsInfoText, RefusesInfo}
 use Rattle.info_print.specs.Canonical.{info_text}
 use Rattle.emp_owner.specs.declared.owned.OwnFault.{OwnFault}
 use Rattle.emp_owner.specs.declared.owned.OwnFault.TheVariants as OwnWords
-use Rattle.emp_owner.specs.Settled.{IsKept, IsFirstBroken}
-use Rattle.emp_flow.specs.declared.decide.Decision.{Decision}
-use Rattle.emp_flow.specs.declared.decide.FlowFault.{FlowFault}
-use Rattle.emp_flow.specs.Flow.{is_flow}
-use Rattle.emp_flow.specs.Decides.{DecideGives}
-use Rattle.emp_command.specs.Course.{FilesFit}
+use Rattle.emp_owner.specs.Settled.{IsFirstBroken}
+use Rattle.emp_problem.specs.Class.{SolvesFile}
+use Rattle.emp_cert.specs.declared.cert.Cert.{Cert}
+use Rattle.emp_cert_text.specs.Text.{cert_text}
+use Rattle.emp_cert_text.specs.Upgrading.{IsUpgrade}
+use Rattle.emp_check.specs.declared.outcome.Checked.TheVariants.{Accepted}
+use Rattle.emp_check.specs.Checks.{checked}
+use Rattle.emp_share.specs.Laws.{IsNotConvex}
+use Rattle.emp_solution.specs.declared.state.Stated.{Stated}
+use Rattle.emp_solution.specs.Stated.{IsStated}
+use Rattle.emp_solution.specs.Tells.{VerdictTells}
 use Rattle.emp_lines.specs.TextLines.{model_line, info_line, own_line}
-use Rattle.emp_report.specs.Report.{equilibrium_report}
-use Rattle.emp_engine.specs.Answers.{flow_outcome}
+use Rattle.emp_lines.specs.ClassLines.{convex_line}
+use Rattle.emp_cert_lines.specs.CertLines.{accepted_line, migrated_line}
+use Rattle.emp_report.specs.Report.{equilibrium_report, best_report, unbounded_report}
+use Rattle.emp_answers.specs.Answers.{is_built, Does, Answers}
 
+-- ---- words
 -- the first word
 abbrev pub HasVerb : List ℕ → List (List ℕ) → Type 0
 HasVerb verb words = (rest : List (List ℕ)) × (words ≡ verb ∷ rest)
@@ -39,37 +51,102 @@ IsSolve words = HasVerb (codes "solve") words
 abbrev pub IsPrint : List (List ℕ) → Type 0
 IsPrint words = HasVerb (codes "print") words
 
+abbrev pub IsCheck : List (List ℕ) → Type 0
+IsCheck words = HasVerb (codes "check") words
+
+abbrev pub IsMigrate : List (List ℕ) → Type 0
+IsMigrate words = HasVerb (codes "migrate") words
+
 -- the files that the words name first and second hold texts that stand for the model and for the annotation of it
 pub record TextsSay (words : List (List ℕ)) (before : Contents) (m : Model) (a : Annot) : Type 0 where
   pub request : Asked
   pub asked : Asks words request
   pub model_file : List ℕ
   pub info_file : List ℕ
-  pub files : request.files ≡ model_file ∷ info_file ∷ []
+  pub others : List (List ℕ)
+  pub files : request.files ≡ model_file ∷ info_file ∷ others
   pub model : IsModelText (before.holds model_file) m
   pub info : IsInfoText (before.holds info_file) m a
 
+-- the output grew by the text
+abbrev pub Grows : List ℕ → Contents → Contents → Type 0
+Grows text before after = after.said ≡ before.said ++ text
+
 -- ---- the headline
--- the output grew by the report of one point, which is an equilibrium of what the two texts stand for
-pub record SaysEquilibrium (words : List (List ℕ)) (before after : Contents) : Type 0 where
+-- an equilibrium, or in a bilevel file a best point
+abbrev pub IsSolution : Bool → Model → Annot → Point → Type 0
+IsSolution false m a p = IsEquilibrium m a p
+IsSolution true m a p = IsBest m a p
+
+abbrev pub point_report : Bool → ℕ → List (List ℕ) → List Frac → List ℕ
+point_report false work names values = equilibrium_report work names values
+point_report true work names values = best_report work names values
+
+-- the output grew by the report of one point, which is an equilibrium, or in a bilevel file a best point, of what the two texts stand for
+pub record SaysPoint (words : List (List ℕ)) (before after : Contents) : Type 0 where
   pub model : Model
   pub annot : Annot
   pub texts : TextsSay words before model annot
   pub work : ℕ
   pub values : List Frac
-  pub said : Says (equilibrium_report work (variable_names model) values) before after
+  pub said : Grows (point_report annot.bilevel work (variable_names model) values) before after
   pub point : Point
   pub stands : StandsFor values point
-  pub equilibrium : IsEquilibrium model annot point
+  pub solution : IsSolution annot.bilevel model annot point
 
--- no point is an equilibrium of what the two texts stand for
+-- no point is an equilibrium, or in a bilevel file admissible, of what the two texts stand for
 pub record ShowsNone (words : List (List ℕ)) (before after : Contents) : Type 0 where
   pub model : Model
   pub annot : Annot
   pub texts : TextsSay words before model annot
-  pub none : (p : Point) → IsEquilibrium model annot p → ⊥
+  pub none : (p : Point) → SolvesFile model annot p → ⊥
 
--- the canonical texts of what the two texts stand for were said
+-- the output grew by the report of a point and a step, which are a ray of what the two texts stand for
+pub record SaysRay (words : List (List ℕ)) (before after : Contents) : Type 0 where
+  pub model : Model
+  pub annot : Annot
+  pub texts : TextsSay words before model annot
+  pub work : ℕ
+  pub values : List Frac
+  pub steps : List Frac
+  pub said : Grows (unbounded_report work (variable_names model) values steps) before after
+  pub point : Point
+  pub step : Point
+  pub stands : StandsFor values point
+  pub steps_stand : StandsFor steps step
+  pub ray : IsRay model annot point step
+
+-- ---- certificates
+-- the third file holds the text of a certificate that is accepted for the rows of what the two texts stand for; its verdict tells what it
+-- says of them
+pub record HasAccepted (words : List (List ℕ)) (before : Contents) : Type 0 where
+  pub model : Model
+  pub annot : Annot
+  pub texts : TextsSay words before model annot
+  pub cert_file : List ℕ
+  pub third : texts.others ≡ cert_file ∷ []
+  pub stated : Stated
+  pub rows : IsStated model annot stated
+  pub cert : Cert
+  pub text : before.holds cert_file ≡ cert_text cert
+  pub accepted : checked stated.system cert ≡ Accepted
+  pub tells : VerdictTells model annot cert.verdict
+
+pub record ShowsAccepted (words : List (List ℕ)) (before after : Contents) : Type 0 where
+  pub has : HasAccepted words before
+  pub said : Grows (accepted_line has.cert.verdict) before after
+
+-- the same certificate with the pairs of the rows named is in the file that the words name last
+pub record ShowsMigrated (words : List (List ℕ)) (before after : Contents) : Type 0 where
+  pub has : HasAccepted words before
+  pub name : List ℕ
+  pub last : has.texts.request.output ≡ Some name
+  pub named : Cert
+  pub upgrade : IsUpgrade has.cert has.stated.system.pairs named
+  pub stored : after.holds name ≡ cert_text named
+  pub said : Grows (migrated_line named.verdict) before after
+
+-- ---- canonical texts
 pub record SaysCanonical (words : List (List ℕ)) (before after : Contents) : Type 0 where
   pub model : Model
   pub annot : Annot
@@ -84,8 +161,8 @@ pub record ShowsModelFault (words : List (List ℕ)) (before after : Contents) :
   pub request : Asked
   pub asked : Asks words request
   pub model_file : List ℕ
-  pub info_file : List ℕ
-  pub files : request.files ≡ model_file ∷ info_file ∷ []
+  pub others : List (List ℕ)
+  pub files : request.files ≡ model_file ∷ others
   pub fault : ModelFault
   pub named : fault ≢ ModelWords.NoMemory
   pub refuses : RefusesModel (before.holds model_file) fault
@@ -97,7 +174,8 @@ pub record ShowsInfoFault (words : List (List ℕ)) (before after : Contents) : 
   pub asked : Asks words request
   pub model_file : List ℕ
   pub info_file : List ℕ
-  pub files : request.files ≡ model_file ∷ info_file ∷ []
+  pub others : List (List ℕ)
+  pub files : request.files ≡ model_file ∷ info_file ∷ others
   pub model : Model
   pub model_text : IsModelText (before.holds model_file) model
   pub fault : InfoFault
@@ -115,48 +193,98 @@ pub record ShowsOwnFault (words : List (List ℕ)) (before after : Contents) : T
   pub broken : IsFirstBroken model annot fault
   pub said : Says (own_line model fault) before after
 
--- ---- files that are not decided
--- no rule of ownership is broken, the file is of the form that is decided, and the line of what its decision came to was said: a tree
--- without a polynomial, a quadratic function, too many rows, a wide number, or more work than the words allow
-pub record ShowsUndecided (status : ℕ) (words : List (List ℕ)) (before after : Contents) : Type 0 where
+-- the agent of the block whose line was said is not convex in its first k counted variables, and is convex in fewer
+pub record ShowsNotConvex (words : List (List ℕ)) (before after : Contents) : Type 0 where
   pub model : Model
   pub annot : Annot
   pub texts : TextsSay words before model annot
-  pub owned : IsKept model annot
-  pub form : is_flow model annot ≡ true
-  pub work : ℕ
-  pub decision : Result Decision FlowFault
-  pub gives : DecideGives model annot work decision
-  pub ends : (flow_outcome model work decision).status ≡ status
-  pub said : Says (flow_outcome model work decision).says before after
+  pub block : ℕ
+  pub own : ℕ
+  pub not : IsNotConvex model annot block own
+  pub said : Says (convex_line block own) before after
 
--- ---- completeness of `print`
--- the output grew by exactly the canonical texts, with status 0, unless memory was wanted
-pub record PrintsWhole (m : Model) (a : Annot) (before after : Contents) (status : ℕ) : Type 0 where
-  pub answers : status ≡ 0
-  pub canonical : List ℕ
-  pub is : IsCanonical m canonical
-  pub said : Says (canonical ++ info_text m a) before after
+-- ---- causes
+-- what was answered over the texts of the files, by its cause: it was stored and said whole
+pub record IsAnswered (words : List (List ℕ)) (before after : Contents) (status : ℕ) : Type 0 where
+  pub request : Asked
+  pub asked : Asks words request
+  pub outcome : Outcome
+  pub answers : Answers request (map before.holds request.files) outcome
+  pub is : outcome.status ≡ status
+  pub between : Contents
+  pub stored : StoresAll outcome.stores before between
+  pub said : Says outcome.says between after
 
--- where the two files that the words name are within their limits and their texts stand for a model and an annotation of it
-abbrev pub PrintIsComplete : List (List ℕ) → ℕ → Contents → Contents → Type 0
-PrintIsComplete words status before after = (m : Model) (a : Annot) (t : TextsSay words before m a) → FilesFit before 1 t.request.files → (status ≡ 21) ⊎ PrintsWhole m a before after status
+-- a report, canonical texts, an accepted certificate, or a line of texts, of ownership, of the file or of a certificate; 24 aside, which
+-- the words may cause too
+abbrev pub is_caused : ℕ → Bool
+is_caused s = list_any (λ k. nat_eq k s) (0 ∷ 1 ∷ 2 ∷ 14 ∷ 15 ∷ 16 ∷ 17 ∷ 18 ∷ 19 ∷ 20 ∷ 22 ∷ 23 ∷ 30 ∷ [])
+
+abbrev pub ShowsCause : ℕ → List (List ℕ) → Contents → Contents → Type 0
+ShowsCause status words before after = IsAnswered words before after status
+
+-- where the words' numbers are in range and the files that they name within their limits: what was answered over
+-- the texts was stored and said whole, unless memory was wanted
+abbrev pub IsReachable : List (List ℕ) → Contents → Type 0
+IsReachable words before = (r : Asked) → Asks words r → IsInRange r × FilesFit before 1 r.files
+
+abbrev pub IsComplete : List (List ℕ) → ℕ → Contents → Contents → Type 0
+IsComplete words status before after = IsPlain words → IsReachable words before → (status ≡ 21) ⊎ IsAnswered words before after status
+
+-- where moreover the first two texts stand for a model and an annotation of it, that is what the verb does over these
+pub record IsDone (words : List (List ℕ)) (m : Model) (a : Annot) (before after : Contents) (status : ℕ) : Type 0 where
+  pub request : Asked
+  pub asked : Asks words request
+  pub rest : List (List ℕ)
+  pub outcome : Outcome
+  pub does : Does m a request rest outcome
+  pub is : outcome.status ≡ status
+  pub between : Contents
+  pub stored : StoresAll outcome.stores before between
+  pub said : Says outcome.says between after
+
+abbrev pub DoesWhole : List (List ℕ) → ℕ → Contents → Contents → Type 0
+DoesWhole words status before after = (m : Model) (a : Annot) → TextsSay words before m a → IsReachable words before → ((r : Asked) → Asks words r → is_built r ≡ true) → (status ≡ 21) ⊎ IsDone words m a before after status
+
+-- ---- files
+-- the name of a file that the words name to be written
+abbrev pub written_by : Verb → Option (List ℕ) → List (List ℕ)
+written_by Solve None = []
+written_by Solve (Some f) = f ∷ []
+written_by Migrate None = []
+written_by Migrate (Some f) = f ∷ []
+written_by Check o = []
+written_by Print o = []
+written_by Make o = []
+written_by Pieces o = []
+
+abbrev pub written : Asked → List (List ℕ)
+written r = written_by r.verb r.output
+
+-- each file that the words do not name to be written is as it was
+abbrev pub KeepsOthers : List (List ℕ) → Contents → Contents → Type 0
+KeepsOthers words before after = (name : List ℕ) → ((r : Asked) → Asks words r → list_any (λ f. bytes_eq f name) (written r) ≡ false) → after.holds name ≡ before.holds name
 
 -- ---- counts
 -- the count of the loads of a file that the words name rose
 abbrev pub SomeLoadRose : List (List ℕ) → (Place → ℕ) → (Place → ℕ) → Type 0
 SomeLoadRose words old new = (r : Asked) × (earlier : List (List ℕ)) × (name : List ℕ) × (later : List (List ℕ)) × Asks words r × (r.files ≡ earlier ++ name ∷ later) × Rose (old (loads name)) (new (loads name))
 
--- no count of the output, or of the loads of a file that the words name, rose
+-- the count of the output, or of the stores of a file that the words name to be written, rose
+abbrev pub SomeWriteRose : List (List ℕ) → (Place → ℕ) → (Place → ℕ) → Type 0
+SomeWriteRose words old new = Rose (old output) (new output) ⊎ ((r : Asked) × (name : List ℕ) × Asks words r × (list_any (λ f. bytes_eq f name) (written r) ≡ true) × Rose (old (stores name)) (new (stores name)))
+
+-- no count of the output, of the loads of a file that the words name to be read, or of the stores of one to be written, rose
 pub record NothingRose (words : List (List ℕ)) (old new : Place → ℕ) : Type 0 where
-  pub said : Rose (old output) (new output) → ⊥
+  pub written : SomeWriteRose words old new → ⊥
   pub loaded : SomeLoadRose words old new → ⊥
 
 -- ---- statuses
--- 0 a report or canonical texts, 1 none, 10 words, 11 unread, 12 unwritten, 13 too long, 14 model text, 15 annotation text, 16 ownership,
--- 17 class, 19 wide, 20 work spent, 21 no memory, 24 size or range, 30 not yet
+-- 0 a report, canonical texts or an accepted certificate, 1 none, 2 unbounded, 10 words, 11 unread, 12 unwritten, 13 too long, 14 model
+-- text, 15 annotation text, 16 ownership, 17 class, 18 not convex, 19 wide, 20 work spent, 21 no memory, 22 certificate text, 23
+-- certificate rejected, 24 size or range, 30 not yet
 abbrev pub is_status : ℕ → Bool
-is_status s = list_any (λ k. nat_eq k s) (0 ∷ 1 ∷ 10 ∷ 11 ∷ 12 ∷ 13 ∷ 14 ∷ 15 ∷ 16 ∷ 17 ∷ 19 ∷ 20 ∷ 21 ∷ 24 ∷ 30 ∷ [])
+is_status s = list_any (λ k. nat_eq k s) (0 ∷ 1 ∷ 2 ∷ 10 ∷ 11 ∷ 12 ∷ 13 ∷ 14 ∷ 15 ∷ 16 ∷ 17 ∷ 18 ∷ 19 ∷ 20 ∷ 21 ∷ 22 ∷ 23 ∷ 24 ∷ 30 ∷ [])
 
 abbrev pub IsStatus : ℕ → Type 0
 IsStatus s = is_status s ≡ true

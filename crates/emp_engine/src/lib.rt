@@ -1,9 +1,7 @@
-//! The top call: it loads two files, decides what they state, and says it.
+//! The top call: it loads the files of a request, answers over their texts, stores and says the answer.
 //!
-//! `run` is what the program calls. `specs/Run.antt` has the words of its clauses, `specs/Answers.antt` what is answered over the
-//! texts of a request.
+//! `run` is what the program calls. `specs/Run.antt` has the words of its clauses; what is answered over texts stands in
+//! `specs/Answers.antt` of `emp_answers`.
 #![tactic(auto)]
 
-pub mod answer;
 pub mod run;
-pub mod solve;

@@ -1,17 +1,17 @@
 //! The top call.
-ghost use Rattle.std.specs.Prelude.{◌≡◌, ◌≢◌, ◌⊎◌, ℕ, List, map, string_bytes, MatchOption};
-ghost use Rattle.emp_desk.specs.Desk.{Told, KeepsFiles, Rose, NoneFalls, output};
+ghost use Rattle.std.specs.Prelude.{◌≡◌, ◌≢◌, ◌⊎◌, ℕ, List, map, string_bytes, true, MatchOption};
+ghost use Rattle.emp_desk.specs.Desk.{Told, Rose, NoneFalls, output};
 ghost use Rattle.emp_command.specs.Words.{IsPlain, Asks};
-ghost use Rattle.emp_command.specs.Course.{Runs, Delivers, IsInRange};
+ghost use Rattle.emp_command.specs.Course.{Runs, Delivers, IsInRange, refusal as refused};
 ghost use Rattle.emp_command.specs.Refusals.{line_of, status_of};
 ghost use Rattle.emp_command.specs.Requests.{asked_of};
-ghost use Rattle.emp_engine.specs.Answers.{saying, Answers};
-ghost use Rattle.emp_engine.specs.Outcomes.{outcome_of};
-ghost use Rattle.emp_engine.specs.Run.{IsSolve, IsPrint, SaysEquilibrium, ShowsNone, SaysCanonical, ShowsModelFault, ShowsInfoFault, ShowsOwnFault, ShowsUndecided, SomeLoadRose, NothingRose, IsStatus, PrintIsComplete};
+ghost use Rattle.emp_answers.specs.Answers.{Answers};
+ghost use Rattle.emp_answers.specs.Outcomes.{outcome_of};
+ghost use Rattle.emp_engine.specs.Run.{IsSolve, IsPrint, IsCheck, IsMigrate, SaysPoint, ShowsNone, SaysRay, ShowsAccepted, ShowsMigrated, SaysCanonical, ShowsModelFault, ShowsInfoFault, ShowsOwnFault, ShowsNotConvex, ShowsCause, is_caused, IsComplete, DoesWhole, KeepsOthers, SomeLoadRose, SomeWriteRose, NothingRose, IsStatus};
 ghost use Rattle.emp_engine.specs.Ends.{Ends, SayCause, IsOutOfRange, IsRequest};
 
-use crate::answer::answer;
-use crate::solve::Answer;
+use emp_answers::answer::answer_texts;
+use emp_answers::said::Answer;
 use emp_command::delivery::{deliver, refuse};
 use emp_command::files::load_all;
 use emp_command::refusal::Refusal;
@@ -39,24 +39,24 @@ fn out_of_range(request: &Request) -> Option<Refusal>
     }
 }
 
-/// Says an answer over the texts.
-#[tactic(auto, using(crate::proofs::Ending::saying_ends))]
+/// Stores and says an answer over the texts.
 fn say<D: Desk>(answer: &Answer, desk: &mut D) -> u8
     ensures told { Told (λ before after. Delivers (outcome_of answer.now) before after result) (D.tells desk.old) (D.tells desk.new) }
-    ensures cause { SayCause (outcome_of answer.now).status result (D.faults desk.old) (D.faults desk.new) }
+    ensures cause { SayCause (outcome_of answer.now) result (D.faults desk.old) (D.faults desk.new) }
     ensures none_falls { NoneFalls (D.faults desk.old) (D.faults desk.new) }
 {
     match answer {
-        Answer::Report(status, text) => deliver(&[], text.as_slice(), *status, desk),
+        Answer::Said(status, files, text) => {
+            deliver(files.as_slice(), text.as_slice(), *status, desk)
+        }
         Answer::Refusal(status, line) => deliver(&[], line.as_slice(), *status, desk),
     }
 }
 
 /// Says the line of a refusal.
-#[tactic(auto, using(crate::proofs::Ending::saying_ends))]
 fn say_refusal<D: Desk>(refusal: Refusal, desk: &mut D) -> u8
-    ensures told { Told (λ before after. Delivers (saying (status_of refusal) (line_of refusal)) before after result) (D.tells desk.old) (D.tells desk.new) }
-    ensures cause { SayCause (status_of refusal) result (D.faults desk.old) (D.faults desk.new) }
+    ensures told { Told (λ before after. Delivers (refused (status_of refusal) (line_of refusal)) before after result) (D.tells desk.old) (D.tells desk.new) }
+    ensures cause { SayCause (refused (status_of refusal) (line_of refusal)) result (D.faults desk.old) (D.faults desk.new) }
     ensures none_falls { NoneFalls (D.faults desk.old) (D.faults desk.new) }
 {
     deliver(&[], refusal.line().as_slice(), refusal.status(), desk)
@@ -69,7 +69,7 @@ fn carry_out<D: Desk>(alloc: Global, request: &Request, desk: &mut D) -> u8
     ensures { (words : List (List ℕ)) → Asks words (asked_of request.now) → Ends words (D.faults desk.old) (D.faults desk.new) (D.tells desk.old) (D.tells desk.new) result }
 {
     match load_all(alloc, request.files, desk) {
-        Ok(texts) => match answer(alloc, request, texts.as_slice()) {
+        Ok(texts) => match answer_texts(alloc, request, texts.as_slice()) {
             Ok(answer) => say(&answer, desk),
             Err(NoMemory) => say_refusal(Refusal::NoMemory, desk),
         },
@@ -101,27 +101,31 @@ fn obey<D: Desk>(alloc: Global, words: &[String], desk: &mut D) -> u8
 
 /// Does what the words ask, over a desk, and answers the exit status.
 ///
-/// `solve MODEL INFO` decides what the two files state and says the report; `print MODEL INFO` says their canonical texts.
-/// The statuses and the lines that go with them stand in `docs/FORMATS.md`; the words of the clauses in `specs/Run.antt`,
-/// `specs/Answers.antt` and `docs/DEFINITIONS.md`. After a refusal only its line was said, or a prefix of it where the say failed,
-/// and no file has changed.
+/// `solve MODEL INFO` decides what the two files state, stores a certificate where `--cert` names a file, and says the report;
+/// `check MODEL INFO CERT` tests a certificate, `migrate MODEL INFO CERT OUT` stores it in version 2, and `print MODEL INFO` says the
+/// canonical texts. The statuses and the lines that go with them stand in `docs/FORMATS.md`; the words of the clauses in
+/// `specs/Run.antt` and `docs/DEFINITIONS.md`. After a refusal only its line was said, or a prefix of it where the say failed, and no file
+/// has changed, but that a store that failed leaves a prefix in its file.
 pub fn run<D: Desk>(alloc: Global, words: &[String], desk: &mut D) -> u8
     ensures course { Told (λ before after. Runs Answers (map string_bytes words.now) (D.faults desk.old) (D.faults desk.new) before after result) (D.tells desk.old) (D.tells desk.new) }
-    ensures equilibrium { IsSolve (map string_bytes words.now) → result ≡ 0 → Told (SaysEquilibrium (map string_bytes words.now)) (D.tells desk.old) (D.tells desk.new) }
+    ensures solved { IsSolve (map string_bytes words.now) → result ≡ 0 → Told (SaysPoint (map string_bytes words.now)) (D.tells desk.old) (D.tells desk.new) }
     ensures none { result ≡ 1 → Told (ShowsNone (map string_bytes words.now)) (D.tells desk.old) (D.tells desk.new) }
+    ensures ray { result ≡ 2 → Told (SaysRay (map string_bytes words.now)) (D.tells desk.old) (D.tells desk.new) }
+    ensures accepted { IsCheck (map string_bytes words.now) → result ≡ 0 → Told (ShowsAccepted (map string_bytes words.now)) (D.tells desk.old) (D.tells desk.new) }
+    ensures migrated { IsMigrate (map string_bytes words.now) → result ≡ 0 → Told (ShowsMigrated (map string_bytes words.now)) (D.tells desk.old) (D.tells desk.new) }
     ensures canonical { IsPrint (map string_bytes words.now) → result ≡ 0 → Told (SaysCanonical (map string_bytes words.now)) (D.tells desk.old) (D.tells desk.new) }
     ensures model_fault { result ≡ 14 → Told (ShowsModelFault (map string_bytes words.now)) (D.tells desk.old) (D.tells desk.new) }
     ensures info_fault { result ≡ 15 → Told (ShowsInfoFault (map string_bytes words.now)) (D.tells desk.old) (D.tells desk.new) }
     ensures own_fault { result ≡ 16 → Told (ShowsOwnFault (map string_bytes words.now)) (D.tells desk.old) (D.tells desk.new) }
-    ensures class { result ≡ 17 → Told (ShowsUndecided 17 (map string_bytes words.now)) (D.tells desk.old) (D.tells desk.new) }
-    ensures wide { result ≡ 19 → Told (ShowsUndecided 19 (map string_bytes words.now)) (D.tells desk.old) (D.tells desk.new) }
-    ensures spent { result ≡ 20 → Told (ShowsUndecided 20 (map string_bytes words.now)) (D.tells desk.old) (D.tells desk.new) }
+    ensures convex { result ≡ 18 → Told (ShowsNotConvex (map string_bytes words.now)) (D.tells desk.old) (D.tells desk.new) }
+    ensures cause { is_caused result ≡ true → Told (ShowsCause result (map string_bytes words.now)) (D.tells desk.old) (D.tells desk.new) }
     ensures unread { result ≡ 11 → SomeLoadRose (map string_bytes words.now) (D.faults desk.old) (D.faults desk.new) }
-    ensures unsaid { result ≡ 12 → Rose (D.faults desk.old output) (D.faults desk.new output) }
+    ensures unwritten { result ≡ 12 → SomeWriteRose (map string_bytes words.now) (D.faults desk.old) (D.faults desk.new) }
     ensures words { (IsPlain (map string_bytes words.now) → ⊥) → (result ≡ 10) ⊎ (result ≡ 12) }
-    ensures files { Told KeepsFiles (D.tells desk.old) (D.tells desk.new) }
+    ensures files { Told (KeepsOthers (map string_bytes words.now)) (D.tells desk.old) (D.tells desk.new) }
     ensures answers { IsStatus result }
-    ensures print_complete { IsPrint (map string_bytes words.now) → NothingRose (map string_bytes words.now) (D.faults desk.old) (D.faults desk.new) → Told (PrintIsComplete (map string_bytes words.now) result) (D.tells desk.old) (D.tells desk.new) }
+    ensures whole { NothingRose (map string_bytes words.now) (D.faults desk.old) (D.faults desk.new) → Told (IsComplete (map string_bytes words.now) result) (D.tells desk.old) (D.tells desk.new) }
+    ensures done { NothingRose (map string_bytes words.now) (D.faults desk.old) (D.faults desk.new) → Told (DoesWhole (map string_bytes words.now) result) (D.tells desk.old) (D.tells desk.new) }
     ensures complete { NothingRose (map string_bytes words.now) (D.faults desk.old) (D.faults desk.new) → (result ≢ 11) × (result ≢ 12) }
 {
     obey(alloc, words, desk)

@@ -1,21 +1,22 @@
 use Rattle.std.proofs.Common.{◌∙◌, sym, subst, string_bytes}
 use Rattle.std.proofs.lemmas.List.{length-map}
 use Rattle.emp_command.specs.Requests.{asked_of}
+use Rattle.emp_answers.specs.Outcomes.{AreTexts, outcome_of}
 use Rattle.emp_engine.proofs.Saying.{said_ends}
-use Rattle.emp_engine.proofs.Ending.{two_texts, starved_ends, unloaded_ends}
-use Rattle.emp_engine.specs.Outcomes.{AreTwoTexts}
+use Rattle.emp_engine.proofs.Ending.{request_texts, request_output, starved_ends, unloaded_ends}
 use Rattle.emp_engine.proofs.run.carry_out.Goals as goal
 
-pub answer-requires : goal.answer-requires
-answer-requires g c = record {
-  two = λ b.
-      subst AreTwoTexts (sym c.as_slice.ensures) (two_texts (asked_of c.args.request.now) c.requires.plain b c.in-Ok.texts (c.in-Ok.ensures.count ∙ sym (length-map c.args.request.now.files.now string_bytes)) c.in-Ok.ensures.short);
+pub answer_texts-requires : goal.answer_texts-requires
+answer_texts-requires g c = record {
+  texts = λ b.
+      subst (AreTexts c.args.request.now.verb) (sym c.as_slice.ensures) (request_texts (asked_of c.args.request.now) c.requires.plain b c.in-Ok.texts (c.in-Ok.ensures.count ∙ sym (length-map c.args.request.now.files.now string_bytes)) c.in-Ok.ensures.short);
+  output = request_output (asked_of c.args.request.now) c.requires.plain;
 }
 
-pub returns-in-Ok-answer : goal.returns-in-Ok-answer
-returns-in-Ok-answer g c words asks =
+pub returns-in-Ok-answer_texts : goal.returns-in-Ok-answer_texts
+returns-in-Ok-answer_texts g c words asks =
     let h = c.in-Ok.ensures in
-    said_ends words _ _ _ _ _ _ h.none_falls h.keeps (asked_of c.args.request.now) asks c.requires.range c.in-Ok.texts c.as_slice.result.now c.in-Ok-answer.answer _ c.as_slice.ensures h.texts c.in-Ok-answer.ensures c.say.ensures.told c.say.ensures.cause
+    said_ends words _ _ _ _ _ _ h.none_falls h.keeps (asked_of c.args.request.now) asks c.requires.range c.in-Ok.texts c.as_slice.result.now (outcome_of c.in-Ok-answer_texts.answer) _ c.as_slice.ensures h.texts c.in-Ok-answer_texts.ensures c.say.ensures.told c.say.ensures.cause
 
 pub returns-in-Ok : goal.returns-in-Ok
 returns-in-Ok g c words asks =

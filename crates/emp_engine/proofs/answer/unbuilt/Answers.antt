@@ -1,7 +1,0 @@
-use Rattle.emp_command.specs.Requests.{asked_of}
-use Rattle.emp_engine.specs.Outcomes.{outcome_of}
-use Rattle.emp_engine.proofs.Answering.{not_built}
-use Rattle.emp_engine.proofs.answer.unbuilt.Goals as goal
-
-pub returns : goal.returns
-returns c = not_built (asked_of c.args.request.now) c.args.texts.now (outcome_of c.not_yet.result) c.requires c.not_yet.ensures
