@@ -5,8 +5,8 @@ use Rattle.emp_command.specs.declared.refusal.Refusal.{Refusal}
 use Rattle.emp_command.specs.declared.refusal.Refusal.TheVariants.{BadWords, BadWork, BadFirms, Unread, TooLong, Unwritten, NoMemory}
 use Rattle.emp_command.specs.Lines.{bad_words_line, too_long_line}
 use Rattle.emp_command.specs.Words.{Asked, Asks, IsPlain, solve, check, print, make, migrate, pieces}
-use Rattle.emp_command.specs.Course.{Outcome, refusal, limit_of, IsInRange, FilesFit, IsReached, IsDue, bad_words, bad_work, bad_firms, unread, too_long, answered, no_memory, StoresAll, StoresPart, Delivers, whole, unsaid, unstored, NeedsNoMemory, Runs, delivered, cut_short}
-use Rattle.emp_command.specs.Refusals.{line_of, status_of, IsLong, SomeUnloaded, HoldTexts, TextsFit}
+use Rattle.emp_command.specs.Course.{Outcome, refusal, limit_of, IsInRange, FilesFit, IsReached, IsDue, bad_words, bad_work, bad_firms, unread, too_long, no_memory, StoresAll, StoresPart, Delivers, whole, unsaid, unstored, NeedsNoMemory, Runs, delivered, cut_short}
+use Rattle.emp_command.specs.Refusals.{line_of, status_of, IsLong, SomeUnloaded, TextsFit}
 use Rattle.emp_command.specs.Deliveries.{SomeStoreRose}
 use Rattle.emp_command.proofs.Telling.{told_join, told_both, told_map, rose_first, rose_second}
 use Rattle.std.proofs.lemmas.Bool.{false≢true}

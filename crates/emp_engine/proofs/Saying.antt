@@ -1,6 +1,6 @@
 -- How a call ends that delivered an answer over its texts.
-use Rattle.std.proofs.Common.{◌≡◌, ◌≢◌, ℕ, ◌⊎◌, inl, inr, true, List, [], ◌∷◌, Option, arith, subst}
-use Rattle.emp_desk.specs.Desk.{Place, stores, output, Contents, Told, KeepsAll, Rose, NoneFalls}
+use Rattle.std.proofs.Common.{◌≡◌, ℕ, inl, inr, List, [], ◌∷◌, Option, arith, subst}
+use Rattle.emp_desk.specs.Desk.{Place, stores, Contents, Told, KeepsAll, NoneFalls}
 use Rattle.emp_command.specs.Words.{Asked, Asks}
 use Rattle.emp_command.specs.Course.{Outcome, IsInRange, IsDue, answered, Delivers}
 use Rattle.emp_command.specs.Refusals.{HoldTexts}

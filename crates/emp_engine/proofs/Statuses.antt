@@ -1,15 +1,14 @@
 -- The statuses of answers over texts, and the files that they store.
-use Rattle.std.proofs.Common.{◌≡◌, ◌≢◌, ℕ, ◌<◌, ◌≤◌, ◌⊎◌, inl, inr, Bool, true, false, ◌||◌, List, [], ◌∷◌, ◌++◌, Option, Some, None, Result, Ok, Err, arith, refl, sym, ap, subst, ◌∙◌, bytes_eq}
+use Rattle.std.proofs.Common.{◌≡◌, ◌≢◌, ℕ, ◌⊎◌, inl, inr, Bool, true, false, ◌||◌, List, [], ◌∷◌, Option, Some, None, refl, sym, ap, subst, ◌∙◌, bytes_eq}
 use Rattle.std.specs.List.{list_any}
 use Rattle.std.proofs.lemmas.Bool.{false≢true}
 use Rattle.std.proofs.lemmas.Slice.Eq.{bytes_eq-Decides}
-use Rattle.emp_num.specs.declared.frac.Frac.{Frac}
 use Rattle.emp_ast.specs.declared.model.Model.{Model}
 use Rattle.emp_ast.specs.declared.annot.Annot.{Annot}
 use Rattle.emp_command.specs.declared.words.Verb.{Verb}
 use Rattle.emp_command.specs.declared.words.Verb.TheVariants.{Solve, Migrate}
 use Rattle.emp_command.specs.Words.{Asked}
-use Rattle.emp_command.specs.Course.{Outcome, refusal}
+use Rattle.emp_command.specs.Course.{Outcome}
 use Rattle.emp_poly.specs.declared.tree.PolyFault.{PolyFault}
 use Rattle.emp_poly.specs.declared.tree.PolyFault.TheVariants as PolyWords
 use Rattle.emp_lines.specs.ClassLines.{poly_status}
@@ -23,7 +22,7 @@ use Rattle.emp_walk.specs.declared.fault.WalkFault.TheVariants as WalkWords
 use Rattle.emp_solution.specs.declared.state.Stated.{Stated}
 use Rattle.emp_solution.specs.declared.state.StateFault.{StateFault}
 use Rattle.emp_solution.specs.declared.state.StateFault.TheVariants as StateWords
-use Rattle.emp_answers.specs.Answers.{saying, state_status, IsNamedFault, Refuses, bad_owner, unstated, walk_status, IsPointReport, ReportOf, cert_stores, Solves, refused, unfinished, unfilled, too_long, answered, Unaccepted, no_rows, bad_text, rejected, wide_sum, Checks, unaccepted, accepted, Migrates, unmigrated, migrated_long, migrated, Does, prints, solves, checks, migrates, Answers, unbuilt, bad_model, bad_info, done}
+use Rattle.emp_answers.specs.Answers.{state_status, IsNamedFault, Refuses, bad_owner, unstated, walk_status, ReportOf, cert_stores, Solves, refused, unfinished, unfilled, too_long, answered, Unaccepted, no_rows, bad_text, rejected, wide_sum, Checks, unaccepted, accepted, Migrates, unmigrated, migrated_long, migrated, Does, prints, solves, checks, migrates, Answers, unbuilt, bad_model, bad_info, done}
 use Rattle.emp_engine.specs.Run.{IsStatus, is_caused, written_by, written}
 
 -- ---- statuses

@@ -235,16 +235,28 @@ IsComplete words status before after = IsPlain words → IsReachable words befor
 pub record IsDone (words : List (List ℕ)) (m : Model) (a : Annot) (before after : Contents) (status : ℕ) : Type 0 where
   pub request : Asked
   pub asked : Asks words request
-  pub rest : List (List ℕ)
+  pub model_file : List ℕ
+  pub info_file : List ℕ
+  pub others : List (List ℕ)
+  pub files : request.files ≡ model_file ∷ info_file ∷ others
   pub outcome : Outcome
-  pub does : Does m a request rest outcome
+  pub does : Does m a request (map before.holds others) outcome
   pub is : outcome.status ≡ status
   pub between : Contents
   pub stored : StoresAll outcome.stores before between
   pub said : Says outcome.says between after
 
+pub record NamesTexts (r : Asked) (before : Contents) (m : Model) (a : Annot) : Type 0 where
+  pub built : is_built r ≡ true
+  pub model_file : List ℕ
+  pub info_file : List ℕ
+  pub others : List (List ℕ)
+  pub files : r.files ≡ model_file ∷ info_file ∷ others
+  pub model : IsModelText (before.holds model_file) m
+  pub info : IsInfoText (before.holds info_file) m a
+
 abbrev pub DoesWhole : List (List ℕ) → ℕ → Contents → Contents → Type 0
-DoesWhole words status before after = (m : Model) (a : Annot) → TextsSay words before m a → IsReachable words before → ((r : Asked) → Asks words r → is_built r ≡ true) → (status ≡ 21) ⊎ IsDone words m a before after status
+DoesWhole words status before after = (m : Model) (a : Annot) → IsPlain words → IsReachable words before → ((r : Asked) → Asks words r → NamesTexts r before m a) → (status ≡ 21) ⊎ IsDone words m a before after status
 
 -- ---- files
 -- the name of a file that the words name to be written

@@ -35,10 +35,10 @@ one_leads n m a g false (Some q) None r over leads some = absurd over
 one_leads n m a g false (Some q) (Some l) r over leads some = absurd leads
 
 module _ (m : Model) (a : Annot) (s : RowSystem) (rows : HasRows m a s) where
-  is_equilibrium : s.objective ≡ None → a.bilevel ≡ false
+  pub is_equilibrium : s.objective ≡ None → a.bilevel ≡ false
   is_equilibrium none = none_leads rows.times m a rows.game a.bilevel s.objective rows.game.leader rows.system.objective rows.is.leads none
 
-  is_bilevel : (r : Affine) → s.objective ≡ Some r → a.bilevel ≡ true
+  pub is_bilevel : (r : Affine) → s.objective ≡ Some r → a.bilevel ≡ true
   is_bilevel r some = one_leads rows.times m a rows.game a.bilevel s.objective rows.game.leader r rows.system.objective rows.is.leads some
 
   pub tells : (v : Verdict) → VerdictShown s v → VerdictHolds s v → VerdictTells m a v
