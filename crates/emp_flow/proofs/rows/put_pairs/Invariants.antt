@@ -1,7 +1,0 @@
-use Rattle.std.proofs.Common.{◌≡◌, ◌++◌, map, take}
-use Rattle.emp_flow.specs.Flow.{pair_slot}
-use Rattle.emp_flow.specs.Making.{slot_of}
-use Rattle.emp_flow.proofs.rows.put_pairs.Given as goal
-
-abbrev pub invariant-loop-at : goal.invariant-loop-at
-invariant-loop-at l = map slot_of l.out ≡ map slot_of l.fn.out ++ map pair_slot (take l.at l.pairs)
