@@ -4,6 +4,8 @@
 #[cfg(test)]
 mod annotation_texts;
 #[cfg(test)]
+mod certificates;
+#[cfg(test)]
 mod convexity;
 #[cfg(test)]
 mod desks;
@@ -23,6 +25,8 @@ mod printed_texts;
 mod runs;
 #[cfg(test)]
 mod small_pairs;
+#[cfg(test)]
+mod solved_files;
 #[cfg(test)]
 mod tokens;
 #[cfg(test)]

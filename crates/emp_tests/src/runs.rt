@@ -20,7 +20,7 @@ const SOLVED: &str = "equilibrium\nwork 3\nx = 2\ny = 1\n";
 const NOT_YET: &str = "error 30: not yet\n";
 
 // The words of a line, which stand apart by one space.
-fn words_of(alloc: Global, line: &str) -> Result<Vec<String>, Fail> {
+pub fn words_of(alloc: Global, line: &str) -> Result<Vec<String>, Fail> {
     let mut words = Vec::new(alloc);
     if !line.is_empty() {
         for word in line.split(' ') {
@@ -31,7 +31,7 @@ fn words_of(alloc: Global, line: &str) -> Result<Vec<String>, Fail> {
 }
 
 // A desk that keeps a model and an annotation under the names m and i, and a text under the name c.
-fn desk_of(alloc: Global, model: &[u8], info: &[u8]) -> Result<MemoryDesk, Fail> {
+pub fn desk_of(alloc: Global, model: &[u8], info: &[u8]) -> Result<MemoryDesk, Fail> {
     let mut desk = MemoryDesk::new(alloc);
     desk.put("m", model)?;
     desk.put("i", info)?;
@@ -39,7 +39,7 @@ fn desk_of(alloc: Global, model: &[u8], info: &[u8]) -> Result<MemoryDesk, Fail>
     Ok(desk)
 }
 
-fn holds(desk: &MemoryDesk, name: &str, expected: &[u8]) -> bool {
+pub fn holds(desk: &MemoryDesk, name: &str, expected: &[u8]) -> bool {
     match desk.file(name) {
         Some(bytes) => bytes == expected,
         None => false,
@@ -55,7 +55,7 @@ fn is_kept(desk: &MemoryDesk, model: &[u8], info: &[u8]) -> bool {
 }
 
 // The call over the two texts ends with the status, says just this, and changes no file.
-fn ends(
+pub fn ends(
     rt: &impl Abort,
     alloc: Global,
     line: &str,
@@ -74,14 +74,14 @@ fn ends(
 }
 
 // A model of the declarations and definitions.
-fn model_of_parts(alloc: Global, parts: &str) -> Result<String, Fail> {
+pub fn model_of_parts(alloc: Global, parts: &str) -> Result<String, Fail> {
     let mut text = String::from_str(alloc, parts)?;
     text.push_str("\nModel m / all /;\nSolve m using EMP;\n")?;
     Ok(text)
 }
 
 // `solve` of a model of the declarations and definitions ends so.
-fn solve_ends(
+pub fn solve_ends(
     rt: &impl Abort,
     alloc: Global,
     parts: &str,
@@ -266,15 +266,7 @@ fn limits_work(rt: HostRuntime) -> Result<(), Fail> {
 
 #[test]
 fn asks_what_is_not_built(rt: HostRuntime) -> Result<(), Fail> {
-    for line in [
-        "check m i c",
-        "make 1 2",
-        "make 1 40 --save t",
-        "solve m i --cert t",
-        "solve m i --work 1 --cert c",
-        "migrate m i c t",
-        "pieces m i",
-    ] {
+    for line in ["make 1 2", "make 1 40 --save t", "pieces m i"] {
         words_end(&rt, rt.alloc(), line, 30, NOT_YET)?;
     }
     Ok(())
@@ -308,30 +300,6 @@ fn finds_points_within_bounds(rt: HostRuntime) -> Result<(), Fail> {
         solve_ends(&rt, rt.alloc(), parts, info, status, said)?;
     }
     Ok(())
-}
-
-#[test]
-fn files_that_are_not_built(rt: HostRuntime) -> Result<(), Fail> {
-    for (parts, info) in [
-        (
-            "Variables z, x; Equations f; f.. z =e= x*x;",
-            "equilibrium min z x f",
-        ),
-        (
-            "Variables x; Equations f, g; f.. x =n= 1; g.. x =g= 0;",
-            "equilibrium vi f x g",
-        ),
-        (
-            "Variables x, v; Equations f, e; f.. x =n= v; e.. v =e= 1;",
-            "equilibrium vi v f x implicit v e",
-        ),
-    ] {
-        solve_ends(&rt, rt.alloc(), parts, info, 30, NOT_YET)?;
-    }
-    let model =
-        "Variables z, x; Equations d, f; d.. z =e= x; f.. x =n= 1; Model m / all /; Solve m using EMP minimizing z;";
-    let texts = (model.as_bytes(), b"bilevel vi f x".as_slice());
-    ends(&rt, rt.alloc(), "solve m i", texts, 30, NOT_YET.as_bytes())
 }
 
 // Over the system of two pairs, with these calls of the desk failing, the words end so.
