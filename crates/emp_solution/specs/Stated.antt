@@ -6,7 +6,7 @@ use Rattle.emp_problem.specs.declared.problem.AgentProblem.{AgentProblem}
 use Rattle.emp_problem.specs.Class.{IsClassFile}
 use Rattle.emp_problem.specs.ProblemOf.{IsProblemOf}
 use Rattle.emp_subst.specs.declared.fault.SubstFault.TheVariants as SubstWords
-use Rattle.emp_subst.specs.Subst.{SubstGives}
+use Rattle.emp_subst.specs.Subst.{AllExpand, SubstGives}
 use Rattle.emp_share.specs.declared.share.ShareFault.TheVariants as ShareWords
 use Rattle.emp_share.specs.Share.{ShareGives}
 use Rattle.emp_kkt.specs.declared.make.KktFault.TheVariants as KktWords
@@ -15,15 +15,17 @@ use Rattle.emp_solution.specs.declared.state.StateFault.{StateFault}
 use Rattle.emp_solution.specs.declared.state.StateFault.TheVariants.{Poly, Quadratic, LeaderNotLinear, NotConvex, WideCurve, TooLarge, WideRow, NoMemory}
 use Rattle.emp_solution.specs.declared.state.Stated.{Stated}
 
--- a file of the class, its problem with convex agents, and the problem's row system
+-- a file of the class whose trees are expanded, its problem with convex agents, and the problem's row system
 pub record IsStated (m : Model) (a : Annot) (s : Stated) : Type 0 where
+  pub expanded : AllExpand m
   pub class : IsClassFile m a
   pub problem : IsProblemOf m a s.problem
   pub convex : ShareGives s.problem (Ok tt)
   pub rows : KktGives s.problem (Ok s.system)
 
--- a file of the class whose problem has the fault
+-- a file of the class whose trees are expanded and whose problem has the fault
 pub record HasUnfit (m : Model) (a : Annot) (ends : AgentProblem → Type 0) : Type 0 where
+  pub expanded : AllExpand m
   pub class : IsClassFile m a
   pub problem : AgentProblem
   pub is : IsProblemOf m a problem

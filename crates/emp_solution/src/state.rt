@@ -6,7 +6,7 @@ ghost use Rattle.emp_owner.specs.Settled.{IsKept, AreOwned};
 ghost use Rattle.emp_problem.specs.Class.{AnnotFits, GoalFits, IsClassFile};
 ghost use Rattle.emp_problem.specs.ProblemOf.{IsProblemOf};
 ghost use Rattle.emp_problem.specs.declared.problem.AgentProblem.{AgentProblem as Problem};
-ghost use Rattle.emp_subst.specs.Subst.{SubstGives};
+ghost use Rattle.emp_subst.specs.Subst.{AllExpand, SubstGives};
 ghost use Rattle.emp_share.specs.Share.{ShareGives};
 ghost use Rattle.emp_kkt.specs.Gives.{IsFit, KktGives};
 ghost use Rattle.emp_solution.specs.Stated.{StateGives};
@@ -66,7 +66,7 @@ fn of_subst(fault: SubstFault) -> StateFault
 
 /// A fault of an agent as one of the file.
 fn of_share(fault: ShareFault) -> StateFault
-    ensures { (m : File) (a : Note) (pr : Problem) → IsClassFile m a → IsProblemOf m a pr → ShareGives pr (Err fault) → StateGives m a (Err result) }
+    ensures { (m : File) (a : Note) (pr : Problem) → AllExpand m → IsClassFile m a → IsProblemOf m a pr → ShareGives pr (Err fault) → StateGives m a (Err result) }
 {
     match fault {
         ShareFault::NotConvex(block, k) => StateFault::NotConvex(block, k),
@@ -77,7 +77,7 @@ fn of_share(fault: ShareFault) -> StateFault
 
 /// A fault of the rows as one of the file.
 fn of_kkt(fault: KktFault) -> StateFault
-    ensures { (m : File) (a : Note) (pr : Problem) → IsClassFile m a → IsProblemOf m a pr → ShareGives pr (Ok tt) → KktGives pr (Err fault) → StateGives m a (Err result) }
+    ensures { (m : File) (a : Note) (pr : Problem) → AllExpand m → IsClassFile m a → IsProblemOf m a pr → ShareGives pr (Ok tt) → KktGives pr (Err fault) → StateGives m a (Err result) }
 {
     match fault {
         KktFault::TooLarge => StateFault::TooLarge,
@@ -89,7 +89,7 @@ fn of_kkt(fault: KktFault) -> StateFault
 /// The row system of a problem whose agents are convex.
 fn with_rows(alloc: Global, problem: AgentProblem) -> Result<Stated, StateFault>
     requires fit { IsFit problem }
-    ensures gives { (m : File) (a : Note) → IsClassFile m a → IsProblemOf m a problem → ShareGives problem (Ok tt) → StateGives m a result }
+    ensures gives { (m : File) (a : Note) → AllExpand m → IsClassFile m a → IsProblemOf m a problem → ShareGives problem (Ok tt) → StateGives m a result }
     ensures base { IfOk result (λ s. length s.problem.variables ≤ s.system.base) }
 {
     match emp_kkt::make::make(alloc, &problem) {
@@ -101,7 +101,7 @@ fn with_rows(alloc: Global, problem: AgentProblem) -> Result<Stated, StateFault>
 /// The row system of a problem, once its agents are tested.
 fn tested(alloc: Global, problem: AgentProblem) -> Result<Stated, StateFault>
     requires fit { IsFit problem }
-    ensures gives { (m : File) (a : Note) → IsClassFile m a → IsProblemOf m a problem → StateGives m a result }
+    ensures gives { (m : File) (a : Note) → AllExpand m → IsClassFile m a → IsProblemOf m a problem → StateGives m a result }
     ensures base { IfOk result (λ s. length s.problem.variables ≤ s.system.base) }
 {
     match convex_agents(alloc, &problem) {

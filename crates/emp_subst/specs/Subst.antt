@@ -80,7 +80,7 @@ PolyGives m (PolyWords.DivideByZero p) = IsFirstFault m (PolyWords.DivideByZero 
 PolyGives m (PolyWords.Wide p) = IsFirstFault m (PolyWords.Wide p)
 
 abbrev pub SubstGives : Model → Annot → Result AgentProblem SubstFault → Type 0
-SubstGives m a (Ok pr) = IsClassFile m a × IsProblemOf m a pr
+SubstGives m a (Ok pr) = AllExpand m × IsClassFile m a × IsProblemOf m a pr
 SubstGives m a (Err (Poly f)) = PolyGives m f
 SubstGives m a (Err (Quadratic e u v)) = IsFirstQuadratic m a e u v
 SubstGives m a (Err (LeaderNotLinear u v)) = IsLeaderQuadratic m a u v
