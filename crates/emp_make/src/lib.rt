@@ -1,0 +1,6 @@
+//! Generated markets.
+//!
+//! What a market is stands in `specs/Markets.antt`.
+#![tactic(auto)]
+
+pub mod market;

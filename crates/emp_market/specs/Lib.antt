@@ -1,0 +1,2 @@
+-- What is so of generated markets
+pub mod Laws
