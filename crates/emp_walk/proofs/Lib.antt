@@ -6,3 +6,4 @@ pub mod Settling
 pub mod Starting
 pub mod Leaves
 pub mod Certified
+pub mod Enough

@@ -1,12 +1,14 @@
 -- What a call of the search gives.
-use Rattle.std.specs.Prelude.{◌≡◌, ℕ, ◌-◌, Bool, Some, None, Result, Ok, Err}
+use Rattle.std.specs.Prelude.{◌≡◌, ◌≢◌, ℕ, ◌-◌, ◌*◌, ◌≤◌, Bool, Some, None, Result, Ok, Err}
 use Rattle.emp_rows.specs.declared.system.RowSystem.{RowSystem}
 use Rattle.emp_cert.specs.declared.cert.Verdict.{Verdict}
 use Rattle.emp_cert.specs.declared.cert.Verdict.TheVariants.{Point, Missing, Best, Unbounded}
 use Rattle.emp_dict.specs.Dictionary.{Dictionary}
 use Rattle.emp_decide.specs.Reads.{IsPointOf, IsStepOf}
+use Rattle.emp_ends.specs.Ends.{nodes_below, node_units}
 use Rattle.emp_search.specs.Search.{point, ray, State, Searched, closed, found, search_of}
 use Rattle.emp_walk.specs.declared.fault.WalkFault.{WalkFault}
+use Rattle.emp_walk.specs.declared.fault.WalkFault.TheVariants.{Spent}
 use Rattle.emp_walk.specs.declared.search.Answer.{Answer}
 use Rattle.emp_walk.specs.Courses.{FaultGives}
 
@@ -28,3 +30,11 @@ pub record AnswerGives (r : Searched) (limit : ℕ) (a : Answer) : Type 0 where
 abbrev pub SearchGives : RowSystem → ℕ → Result Answer WalkFault → Type 0
 SearchGives s limit (Ok a) = AnswerGives (search_of s limit) limit a
 SearchGives s limit (Err f) = FaultGives (search_of s limit) limit f
+
+-- as many units as all nodes that a search opens may take, each with a step for every quantity and the objective
+abbrev pub HasUnits : RowSystem → ℕ → Type 0
+HasUnits s limit = (nodes_below s * node_units s) ≤ limit
+
+-- no fault is that the units are spent
+abbrev pub IsNotSpent : WalkFault → Type 0
+IsNotSpent f = (limit : ℕ) → f ≢ Spent limit

@@ -1,7 +1,8 @@
 //! The two searches as calls that give certificates: for a row system without an objective, and for one with an objective.
-ghost use Rattle.std.specs.Prelude.{◌≡◌, length, IfOk, None, Some};
+ghost use Rattle.std.specs.Prelude.{◌≡◌, length, IfOk, IfErr, None, Some};
 ghost use Rattle.emp_rows.specs.declared.affine.Affine.{Affine};
 ghost use Rattle.emp_cert.specs.Certs.{VerdictFits};
+ghost use Rattle.emp_walk.specs.Searches.{HasUnits, IsNotSpent};
 ghost use Rattle.emp_walk.specs.Founds.{CertGives, IsBestVerdict, IsWalkVerdict, NamesSystem, answer_of};
 
 use crate::fault::WalkFault;
@@ -49,11 +50,13 @@ fn found(alloc: Global, system: &RowSystem, work: u64) -> Result<Found, WalkFaul
 
 /// Searches a row system without an objective, with so many units of work.
 ///
-/// The verdict is a row point, or a tree that leaves none. The certificate names the system and shows its verdict. The faults are those of `search`.
+/// The verdict is a row point, or a tree that leaves none. The certificate names the system and shows its verdict. The faults are those of `search`;
+/// with as many units as `HasUnits` says none is `Spent`.
 pub fn walk(alloc: Global, system: &RowSystem, work: u64) -> Result<Found, WalkFault>
     requires { system.now.objective ≡ None }
     ensures gives { CertGives system.now work result }
     ensures kind { IfOk result (λ f. IsWalkVerdict f.cert.verdict) }
+    ensures ends { HasUnits system.now work → IfErr result IsNotSpent }
 {
     found(alloc, system, work)
 }
@@ -61,11 +64,13 @@ pub fn walk(alloc: Global, system: &RowSystem, work: u64) -> Result<Found, WalkF
 /// Searches a row system with an objective that is to be least, with so many units of work.
 ///
 /// The verdict is a best row point with a tree that bounds the objective, a row ray along which the objective falls, or a tree that leaves no row
-/// point. The certificate names the system and shows its verdict. The faults are those of `search`.
+/// point. The certificate names the system and shows its verdict. The faults are those of `search`; with as many
+/// units as `HasUnits` says none is `Spent`.
 pub fn bisearch(alloc: Global, system: &RowSystem, work: u64) -> Result<Found, WalkFault>
     requires { (o : Affine) × (system.now.objective ≡ Some o) }
     ensures gives { CertGives system.now work result }
     ensures kind { IfOk result (λ f. IsBestVerdict f.cert.verdict) }
+    ensures ends { HasUnits system.now work → IfErr result IsNotSpent }
 {
     found(alloc, system, work)
 }
