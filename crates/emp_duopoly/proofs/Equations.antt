@@ -1,6 +1,5 @@
 -- The equation of a firm at a point, as an equation of whole numbers.
-use Rattle.std.proofs.Common.{◌≡◌, ◌⊎◌, inl, inr, ℕ, ◌+◌, ◌^◌, ◌<◌, ℤ, pos, ◌+ℤ◌, ◌-ℤ◌, ◌*ℤ◌, Bool, true, false, cond, [], ◌∷◌, arith, refl, sym, ap, ap₂, subst, subst₂, ◌∙◌}
-use Rattle.std.proofs.lemmas.Bool.{lt-ltb}
+use Rattle.std.proofs.Common.{◌≡◌, ◌⊎◌, inl, inr, ℕ, ◌+◌, ◌<◌, ℤ, pos, ◌+ℤ◌, ◌-ℤ◌, ◌*ℤ◌, Bool, true, false, cond, [], ◌∷◌, arith, refl, sym, ap, ap₂, subst, subst₂, ◌∙◌}
 use lib.IntN.{+ℤ_comm}
 use Rattle.emp_algebra.proofs.Ring.{var, lit, ◌⊕◌, ◌⊖◌, ◌⊗◌, by_ring}
 use Rattle.emp_algebra.specs.Vector.{cell}
@@ -73,16 +72,10 @@ paid false r d c i j v k s t h =
     (pays_one (pos d) (pos c) (cell r.nums k) r.den (cell r.nums v) h)
 
 demand_is : (seed k : ℕ) → IsWhole (whole (demand seed k)) (demand seed k)
-demand_is seed k = is_whole (demand seed k) (lt-ltb _ _ (small (demand seed k) (ranges seed k).demand_high))
-  where
-    small : (n : ℕ) → n < 40 → n < 2 ^ 126
-    small n h = omega arith
+demand_is seed k = is_whole (demand seed k) (ranges seed k).demand_high
 
 cost_is : (seed k : ℕ) → IsWhole (whole (cost seed k)) (cost seed k)
-cost_is seed k = is_whole (cost seed k) (lt-ltb _ _ (small (cost seed k) (ranges seed k).cost_high))
-  where
-    small : (n : ℕ) → n < 10 → n < 2 ^ 126
-    small n h = omega arith
+cost_is seed k = is_whole (cost seed k) (let h = (ranges seed k).cost_high in omega arith)
 
 -- ---- the equation at any point
 pub earns : (seed firms k : ℕ) (q : Equation) (r : Point) → IsProfitEquation seed firms k q → MeetsEquation r q → Earns seed firms k r

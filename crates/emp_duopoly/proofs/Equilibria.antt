@@ -1,9 +1,10 @@
 -- Each generated market has an equilibrium.
-use Rattle.std.proofs.Common.{◌≡◌, ◌⊎◌, inl, inr, ℕ, ◌^◌, ◌<◌, ◌≤◌, ℤ, pos, ◌+ℤ◌, ◌-ℤ◌, ◌*ℤ◌, ◌≤ℤ◌, ◌<ℤ◌, Bool, true, false, List, [], ◌∷◌, length, get_or, Some, None, arith, refl, sym, ap, subst, subst₂, ◌∙◌}
+use Rattle.std.proofs.Common.{◌≡◌, ◌⊎◌, inl, inr, ℕ, ◌<◌, ◌≤◌, ℤ, pos, ◌+ℤ◌, ◌-ℤ◌, ◌*ℤ◌, ◌≤ℤ◌, ◌<ℤ◌, Bool, true, false, List, [], ◌∷◌, length, get_or, Some, None, arith, refl, sym, ap, subst, subst₂, ◌∙◌}
 use Rattle.std.specs.List.{slice_get}
 use Rattle.std.proofs.lemmas.Int.{ints}
-use Rattle.std.proofs.lemmas.Bool.{false≢true, lt-ltb}
+use Rattle.std.proofs.lemmas.Bool.{false≢true}
 use Rattle.std.proofs.lemmas.Option.{slice_get_within, slice_get_cases}
+use lib.IntN.{zero-*ℤ}
 use Rattle.emp_algebra.proofs.Order.{cancel_right}
 use Rattle.emp_algebra.proofs.Ring.{var, lit, ◌⊕◌, ◌⊖◌, ◌⊗◌, by_ring}
 use Rattle.emp_algebra.specs.Vector.{cell}
@@ -40,7 +41,8 @@ sold_is : (seed firms k : ℕ) → k < firms → sold firms (point seed firms) k
 sold_is seed firms k below = go (has_rival firms k) refl
   where
     go : (b : Bool) → has_rival firms k ≡ b → sold firms (point seed firms) k ≡ pos 6 *ℤ (amount seed firms k +ℤ others seed firms k)
-    go true e = let s = rival seed firms k e in
+    go true e =
+        let s = rival seed firms k e in
         sold_with seed firms k (point seed firms) e s ∙ (ap (λ z. z +ℤ cell (numbers seed firms) (quantity firms s.other)) (quantity_is seed firms k below) ∙ (ap (λ z. pos 6 *ℤ amount seed firms k +ℤ z) (quantity_is seed firms s.other s.within ∙ ap (λ z. pos 6 *ℤ z) s.amount_is) ∙ by_ring (amount seed firms k ∷ others seed firms k ∷ []) (lit (pos 6) ⊗ var 0 ⊕ lit (pos 6) ⊗ var 1) (lit (pos 6) ⊗ (var 0 ⊕ var 1)) refl))
     go false e =
         sold_alone firms k (point seed firms) e ∙ (quantity_is seed firms k below ∙ (by_ring (amount seed firms k ∷ []) (lit (pos 6) ⊗ var 0) (lit (pos 6) ⊗ (var 0 ⊕ lit (pos 0))) refl ∙ sym (ap (λ z. pos 6 *ℤ (amount seed firms k +ℤ z)) (others_alone seed firms k e))))
@@ -53,29 +55,23 @@ each_met seed firms k m q h at =
 
 -- ---- bounds
 cap_is : (seed k : ℕ) → IsWhole (whole (cap seed k)) (cap seed k)
-cap_is seed k = is_whole (cap seed k) (lt-ltb _ _ (small (cap seed k) (ranges seed k).cap_high))
-  where
-    small : (n : ℕ) → n < 20 → n < 2 ^ 126
-    small n h = omega arith
+cap_is seed k = is_whole (cap seed k) (let h = (ranges seed k).cap_high in omega arith)
 
 -- from 0 to c, as an order of whole numbers
-over_one : (Q : ℤ) → Q *ℤ pos 1 ≡ Q
-over_one Q = by_ring (Q ∷ []) (var 0 ⊗ lit (pos 1)) (var 0) refl
-
-none_over : (D : ℤ) → pos 0 *ℤ D ≡ pos 0
-none_over D = by_ring (D ∷ []) (lit (pos 0) ⊗ var 0) (lit (pos 0)) refl
+times_one : (z : ℤ) → z *ℤ pos 1 ≡ z
+times_one z = omega (arith, ints)
 
 from_zero : (Q D : ℤ) → pos 0 ≤ℤ Q → IsAbove (ratio Q D) (At (whole 0))
-from_zero Q D h = subst₂ (λ x y. x ≤ℤ y) (sym (none_over D)) (sym (over_one Q)) h
+from_zero Q D h = subst₂ (λ x y. x ≤ℤ y) (sym (zero-*ℤ D)) (sym (times_one Q)) h
 
 to_cap : (c : ℕ) (Q D : ℤ) → IsWhole (whole c) c → Q ≤ℤ (pos c *ℤ D) → IsBelow (ratio Q D) (At (whole c))
-to_cap c Q D s h = subst₂ (λ n d. (Q *ℤ d) ≤ℤ (n *ℤ D)) (sym s.num) (sym s.den) (subst (λ z. z ≤ℤ (pos c *ℤ D)) (sym (over_one Q)) h)
+to_cap c Q D s h = subst₂ (λ n d. (Q *ℤ d) ≤ℤ (n *ℤ D)) (sym s.num) (sym s.den) (subst (λ z. z ≤ℤ (pos c *ℤ D)) (sym (times_one Q)) h)
 
 at_least : (Q D : ℤ) → IsAbove (ratio Q D) (At (whole 0)) → pos 0 ≤ℤ Q
-at_least Q D h = subst₂ (λ x y. x ≤ℤ y) (none_over D) (over_one Q) h
+at_least Q D h = subst₂ (λ x y. x ≤ℤ y) (zero-*ℤ D) (times_one Q) h
 
 at_most : (c : ℕ) (Q D : ℤ) → IsWhole (whole c) c → IsBelow (ratio Q D) (At (whole c)) → Q ≤ℤ (pos c *ℤ D)
-at_most c Q D s h = subst (λ z. z ≤ℤ (pos c *ℤ D)) (over_one Q) (subst₂ (λ n d. (Q *ℤ d) ≤ℤ (n *ℤ D)) s.num s.den h)
+at_most c Q D s h = subst (λ z. z ≤ℤ (pos c *ℤ D)) (times_one Q) (subst₂ (λ n d. (Q *ℤ d) ≤ℤ (n *ℤ D)) s.num s.den h)
 
 -- an amount of x sixths is within its bounds
 six_low : (x Q : ℤ) → Q ≡ pos 6 *ℤ x → pos 0 ≤ℤ x → pos 0 ≤ℤ Q

@@ -1,7 +1,7 @@
 -- The firms of a market: what they earn, and their amounts in balance, in sixths of a unit.
-use Rattle.std.proofs.Common.{◌≡◌, ◌≢◌, ◌⊎◌, inl, inr, ℕ, ◌+◌, ◌*◌, ◌/◌, ◌%◌, ◌<◌, ◌≤◌, ℤ, pos, ◌+ℤ◌, ◌-ℤ◌, ◌≤ℤ◌, Bool, true, false, cond, eqb, ltb, arith, refl, sym, ap, subst, ◌∙◌}
+use Rattle.std.proofs.Common.{◌≡◌, ◌≢◌, ◌⊎◌, inl, inr, ℕ, ◌+◌, ◌*◌, ◌/◌, ◌%◌, ◌<◌, ◌≤◌, ℤ, pos, ◌+ℤ◌, ◌-ℤ◌, ◌≤ℤ◌, Bool, true, false, cond, eqb, ltb, arith, refl, sym, ap, ap₂, subst, ◌∙◌}
 use Rattle.std.proofs.lemmas.Int.{ints}
-use Rattle.std.proofs.lemmas.Bool.{ltb-true, eqb-true, eqb-false, ne_eqb}
+use Rattle.std.proofs.lemmas.Bool.{ltb-true, eqb-true, eqb-false, ne_eqb, eq-eqb}
 use Rattle.emp_make.specs.Markets.{state, demand, cost, cap, first_of_market, has_rival}
 use Rattle.emp_duopoly.proofs.Balance.{IsAnswer, Balance, balance, Answer, answer}
 
@@ -29,8 +29,8 @@ margins_near d e c f same h k = omega (arith, ints)
 not_below : (n : ℕ) → pos 0 ≤ℤ pos n
 not_below n = omega (arith, ints)
 
-at_most : (d c : ℕ) → 20 ≤ d → c < 10 → pos 0 ≤ℤ (pos d -ℤ pos c)
-at_most d c h k = omega (arith, ints)
+margin_above : (d c : ℕ) → 20 ≤ d → c < 10 → pos 0 ≤ℤ (pos d -ℤ pos c)
+margin_above d c h k = omega (arith, ints)
 
 -- ---- the firms of market j are 2 j and 2 j + 1
 first_half : (j : ℕ) → 2 * j / 2 ≡ j
@@ -54,7 +54,7 @@ market seed j =
 
 -- the answer to no rival
 pub alone : (seed k : ℕ) → Answer (margin seed k) (pos (cap seed k)) (pos 0)
-alone seed k = let r = ranges seed k in answer (margin seed k) (pos (cap seed k)) (pos 0) (not_below _) (at_most _ _ r.demand_low r.cost_high)
+alone seed k = let r = ranges seed k in answer (margin seed k) (pos (cap seed k)) (pos 0) (not_below _) (margin_above _ _ r.demand_low r.cost_high)
 
 -- ---- amounts
 abbrev pub is_first : ℕ → Bool
@@ -86,9 +86,18 @@ pub others_alone : (seed firms k : ℕ) → has_rival firms k ≡ false → othe
 others_alone seed firms k e = ap (λ b. cond b (cond (is_first k) (market seed (k / 2)).second (market seed (k / 2)).first) (pos 0)) e
 
 -- ---- the rival
-amount_at : (seed firms j k : ℕ) → k / 2 ≡ j → ltb (2 * j + 1) firms ≡ true → amount seed firms k ≡ cond (is_first k) (market seed j).first (market seed j).second
-amount_at seed firms j k e h =
-    subst (λ j. ltb (2 * j + 1) firms ≡ true → amount seed firms k ≡ cond (is_first k) (market seed j).first (market seed j).second) e (λ h. ap (λ b. cond b (cond (is_first k) (market seed (k / 2)).first (market seed (k / 2)).second) (alone seed k).amount) h) h
+others_with : (seed firms k : ℕ) (c : Bool) → has_rival firms k ≡ true → is_first k ≡ c → others seed firms k ≡ cond c (market seed (k / 2)).second (market seed (k / 2)).first
+others_with seed firms k c h e = ap₂ (λ b c. cond b (cond c (market seed (k / 2)).second (market seed (k / 2)).first) (pos 0)) h e
+
+amount_with : (seed firms j k : ℕ) (c : Bool) → k / 2 ≡ j → ltb (2 * j + 1) firms ≡ true → is_first k ≡ c → amount seed firms k ≡ cond c (market seed j).first (market seed j).second
+amount_with seed firms j k c half h e =
+    subst (λ j. ltb (2 * j + 1) firms ≡ true → amount seed firms k ≡ cond c (market seed j).first (market seed j).second) half (λ h. ap₂ (λ b c. cond b (cond c (market seed (k / 2)).first (market seed (k / 2)).second) (alone seed k).amount) h e) h
+
+even_is_first : (j : ℕ) → is_first (2 * j) ≡ true
+even_is_first j = eq-eqb (2 * j % 2) 0 (omega arith)
+
+odd_is_second : (j : ℕ) → is_first (2 * j + 1) ≡ false
+odd_is_second j = let odd : (2 * j + 1) % 2 ≢ 0 = omega arith in ne_eqb ((2 * j + 1) % 2) 0 odd
 
 pub record Rival (seed firms k : ℕ) : Type 0 where
   pub other : ℕ
@@ -105,15 +114,13 @@ rival seed firms k h = go (is_first k) refl
       other = 2 * (k / 2) + 1;
       within = ltb-true _ _ h;
       apart = let f = first_is k e in omega arith;
-      amount_is =
-          amount_at seed firms (k / 2) (2 * (k / 2) + 1) (second_half (k / 2)) h ∙ (ap (λ b. cond b (market seed (k / 2)).first (market seed (k / 2)).second) (let odd : (2 * (k / 2) + 1) % 2 ≢ 0 = omega arith in ne_eqb _ _ odd) ∙ sym (ap (λ b. cond b (cond (is_first k) (market seed (k / 2)).second (market seed (k / 2)).first) (pos 0)) h ∙ ap (λ b. cond b (market seed (k / 2)).second (market seed (k / 2)).first) e));
+      amount_is = amount_with seed firms (k / 2) (2 * (k / 2) + 1) false (second_half (k / 2)) h (odd_is_second (k / 2)) ∙ sym (others_with seed firms k true h e);
       places = inl (first_is k e, refl);
     }
     go false e = record {
       other = 2 * (k / 2);
       within = let l : 2 * (k / 2) + 1 < firms = ltb-true _ _ h in omega arith;
       apart = let f = second_is k e in omega arith;
-      amount_is =
-          amount_at seed firms (k / 2) (2 * (k / 2)) (first_half (k / 2)) h ∙ (ap (λ b. cond b (market seed (k / 2)).first (market seed (k / 2)).second) (let even : (2 * (k / 2)) % 2 ≡ 0 = omega arith in ap (λ n. eqb n 0) even) ∙ sym (ap (λ b. cond b (cond (is_first k) (market seed (k / 2)).second (market seed (k / 2)).first) (pos 0)) h ∙ ap (λ b. cond b (market seed (k / 2)).second (market seed (k / 2)).first) e));
+      amount_is = amount_with seed firms (k / 2) (2 * (k / 2)) true (first_half (k / 2)) h (even_is_first (k / 2)) ∙ sym (others_with seed firms k false h e);
       places = inr (refl, second_is k e);
     }

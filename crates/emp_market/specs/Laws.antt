@@ -1,15 +1,9 @@
--- The laws of generated markets, as statements.
+-- The law of the files of generated markets, as a statement.
 use Rattle.std.specs.Prelude.{ℕ, ◌≤◌}
-use Rattle.emp_num.specs.Point.{Point}
 use Rattle.emp_ast.specs.declared.model.Model.{Model}
 use Rattle.emp_ast.specs.declared.annot.Annot.{Annot}
-use Rattle.emp_ast.specs.Equilibrium.{IsEquilibrium}
 use Rattle.emp_accepted.specs.Accepted.{IsAcceptedPair}
 use Rattle.emp_make.specs.Markets.{IsMarket}
-
--- each generated market has an equilibrium
-abbrev pub MarketsHaveEquilibria : Type 0
-MarketsHaveEquilibria = (seed firms : ℕ) (m : Model) (a : Annot) → IsMarket seed firms m a → (p : Point) × IsEquilibrium m a p
 
 -- the files of a market of at most 40 firms are an accepted pair
 abbrev pub MarketsAreAccepted : Type 0

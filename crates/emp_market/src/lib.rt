@@ -1,5 +1,4 @@
-//! What is so of generated markets, whatever the seed: each has an equilibrium, and its files are an accepted pair.
+//! What is so of the files of generated markets, whatever the seed: they are an accepted pair.
 #![tactic(auto)]
 
 pub mod accepting;
-pub mod equilibria;
