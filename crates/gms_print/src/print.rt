@@ -69,10 +69,12 @@ fn write_model(alloc: Global, out: &mut Vec<u8>, model: &Model) -> Result<(), Al
     Ok(())
 }
 
-/// The canonical text of a model, as `specs/Canonical.antt` defines it. It stands for the same model, places aside.
+/// The canonical text of a model, as `specs/Canonical.antt` defines it. Of a model that some text stands for it stands for the
+/// same model, places aside.
 ///
-/// Of a model that no text stands for it writes some text.
+/// Of a model with a number that no decimal of at most 37 places writes it writes some text.
 pub fn print_model(alloc: Global, model: &Model) -> Result<Vec<u8>, AllocError>
+    ensures printable { IsPrintableModel model.now → IfOk result (λ v. IsCanonical model.now v.items) }
     ensures canonical { HasText model.now → IfOk result (λ v. IsCanonical model.now v.items) }
     ensures reads_back { HasText model.now → IfOk result (λ v. ReadsBack v.items model.now) }
 {

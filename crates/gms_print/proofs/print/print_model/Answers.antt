@@ -8,6 +8,7 @@ pub returns : goal.returns
 returns c =
     let m = c.args.model.now in
     record {
+      printable = λ h. alone (IsCanonical m) c.new-out.result.items c.write_model.new.out.items c.new-out.ensures.items (c.in_ok-write_model.ensures h);
       canonical = λ h. alone (IsCanonical m) c.new-out.result.items c.write_model.new.out.items c.new-out.ensures.items (c.in_ok-write_model.ensures (printable_model m (sound_model m h)));
       reads_back = λ h. reads_back m c.write_model.new.out.items (sound_model m h) (alone (IsCanonical m) c.new-out.result.items c.write_model.new.out.items c.new-out.ensures.items (c.in_ok-write_model.ensures (printable_model m (sound_model m h))));
     }
