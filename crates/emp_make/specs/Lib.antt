@@ -1,1 +1,4 @@
 pub mod Markets
+pub mod Making
+-- What only helps proofs
+pub mod Parts

@@ -51,8 +51,8 @@ quantity firms k = firms + k
 abbrev pub price : ℕ → ℕ → ℕ → Expression
 price seed firms k =
     cond (has_rival firms k)
-      (joined Minus (joined Minus (number (whole (demand seed k))) (variable (quantity firms (first_of_market k)))) (variable (quantity firms (first_of_market k + 1))))
-      (joined Minus (number (whole (demand seed k))) (variable (quantity firms k)))
+    (joined Minus (joined Minus (number (whole (demand seed k))) (variable (quantity firms (first_of_market k)))) (variable (quantity firms (first_of_market k + 1))))
+    (joined Minus (number (whole (demand seed k))) (variable (quantity firms k)))
 
 -- the price times the quantity, less the cost of the quantity
 abbrev pub profit : ℕ → ℕ → ℕ → Expression
