@@ -1,8 +1,6 @@
 -- Generated markets: what the draws from a seed give, and the model and the annotation of these firms.
 use Rattle.std.specs.Prelude.{◌≡◌, ℕ, zero, suc, ◌+◌, ◌*◌, ◌/◌, ◌%◌, ◌<◌, Bool, false, cond, nat_lt, List, [], ◌∷◌, ◌++◌, length, slice_get, codes, decimal, Some, None}
 use Rattle.emp_num.specs.Whole.{whole}
-use Rattle.emp_ast.specs.declared.tree.VarId.{VarId}
-use Rattle.emp_ast.specs.declared.tree.EquId.{EquId}
 use Rattle.emp_ast.specs.declared.tree.Operator.TheVariants.{Minus, Times}
 use Rattle.emp_ast.specs.declared.model.Relation.TheVariants.{Equal}
 use Rattle.emp_ast.specs.declared.model.Equation.{Equation}

@@ -1,5 +1,5 @@
 -- The parts of a market as they are made. This serves the proofs of the code; no meaning cites it.
-use Rattle.std.specs.Prelude.{◌≡◌, ℕ, List, ◌++◌, map, length, slice_get, Some}
+use Rattle.std.specs.Prelude.{◌≡◌, ℕ, List, map, length, slice_get, Some}
 use Rattle.std.specs.List.{range_with_len}
 use Rattle.emp_num.specs.declared.frac.Frac.{Frac}
 use Rattle.emp_ast.specs.declared.tree.Operator.TheVariants.{Minus, Times}

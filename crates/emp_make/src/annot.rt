@@ -28,6 +28,7 @@ fn firm_block(alloc: Global, firms: u32, firm: u32) -> Result<Block, NoMemory>
 }
 
 /// The blocks of all firms.
+#[tactic(auto, using(crate::proofs::Lists::made_more))]
 fn firm_blocks(alloc: Global, firms: u32) -> Result<Seq<Block>, NoMemory>
     requires few { firms ≤ 40 }
     ensures { IfOk result (λ bs. bs ≡ firm_blocks firms firms) }

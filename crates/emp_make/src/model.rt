@@ -28,6 +28,7 @@ fn numbered(alloc: Global, name: &[u8], firm: u32) -> Result<Name, NoMemory>
 }
 
 /// The fraction of a whole number.
+#[tactic(auto, using(crate::proofs::Wholes::is_whole))]
 fn whole(number: u32) -> Frac
     ensures { result ≡ whole number }
 {
@@ -202,6 +203,7 @@ fn quantity_variable(alloc: Global, seed: u64, firm: u32) -> Result<Variable, No
 }
 
 /// Puts the variables of all profits at the end.
+#[tactic(auto, using(crate::proofs::Lists::made_more_behind))]
 fn push_profits(alloc: Global, variables: &mut Seq<Variable>, firms: u32) -> Result<(), NoMemory>
     requires few { firms ≤ 40 }
     ensures { OnOk result (variables.new ≡ variables.old ++ profit_variables firms) }
@@ -213,6 +215,7 @@ fn push_profits(alloc: Global, variables: &mut Seq<Variable>, firms: u32) -> Res
 }
 
 /// Puts the variables of all quantities at the end.
+#[tactic(auto, using(crate::proofs::Lists::made_more_behind))]
 fn push_quantities(
     alloc: Global,
     variables: &mut Seq<Variable>,
