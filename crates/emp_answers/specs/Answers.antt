@@ -60,7 +60,7 @@ is_built_for Solve = true
 is_built_for Check = true
 is_built_for Print = true
 is_built_for Migrate = true
-is_built_for Make = false
+is_built_for Make = true
 is_built_for Pieces = false
 
 abbrev pub is_built : Asked → Bool

@@ -104,13 +104,13 @@ pub record StoredAnew (s : RowSystem) (c : Cert) (name : List ℕ) (o : Outcome)
   pub is : IsUpgrade c s.pairs named
   pub ends : ((length (cert_text named) ≤ longest) × (o ≡ record { status = 0; stores = (name, cert_text named) ∷ []; says = migrated_line named.verdict })) ⊎ ((longest < length (cert_text named)) × (o ≡ refusal 24 long_line))
 
--- ---- the texts behind the model's and the annotation's
+-- ---- the texts behind the model's and the annotation's; a request of `make` names no texts at all
 abbrev pub RestFits : Verb → List (List ℕ) → Type 0
 RestFits Solve rest = rest ≡ []
 RestFits Print rest = rest ≡ []
 RestFits Check rest = (ct : List ℕ) × (rest ≡ ct ∷ []) × (length ct ≤ 16777216)
 RestFits Migrate rest = (ct : List ℕ) × (rest ≡ ct ∷ []) × (length ct ≤ 16777216)
-RestFits Make rest = Unit {0}
+RestFits Make rest = ⊥
 RestFits Pieces rest = Unit {0}
 
 -- a request to store a certificate anew names a file for it

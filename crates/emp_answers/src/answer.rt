@@ -39,8 +39,8 @@ fn is_built(request: &Request) -> bool
     ensures { result ≡ is_built (asked_of request.now) }
 {
     match request.verb {
-        Verb::Solve | Verb::Check | Verb::Print | Verb::Migrate => true,
-        Verb::Make | Verb::Pieces => false,
+        Verb::Solve | Verb::Check | Verb::Print | Verb::Migrate | Verb::Make => true,
+        Verb::Pieces => false,
     }
 }
 

@@ -27,7 +27,7 @@ pub struct Report {
 }
 
 /// The values of the model's variables at a row point.
-fn values(
+pub fn values(
     alloc: Global,
     model: &Model,
     annot: &Annot,

@@ -28,7 +28,7 @@ use emp_walk::walk::{bisearch, walk};
 use std::alloc::Global;
 
 /// The search of a row system with so many units of work, by whether it has an objective.
-fn search(alloc: Global, system: &RowSystem, work: u64) -> Result<Found, WalkFault>
+pub fn search(alloc: Global, system: &RowSystem, work: u64) -> Result<Found, WalkFault>
     ensures { CertGives system.now work result }
 {
     if system.objective.is_none() {
@@ -39,7 +39,7 @@ fn search(alloc: Global, system: &RowSystem, work: u64) -> Result<Found, WalkFau
 }
 
 /// The refusal of a search that did not end.
-fn walk_refusal(fault: WalkFault) -> Result<Answer, NoMemory>
+pub fn walk_refusal(fault: WalkFault) -> Result<Answer, NoMemory>
     ensures { IfOk result (λ a. (fault ≢ walk_words.NoMemory) × (outcome_of a ≡ refusal (walk_status fault) (walk_line fault))) }
 {
     match fault {
@@ -93,7 +93,7 @@ fn deliver(
 }
 
 /// The refusal of a point one of whose values is wide.
-fn fill_refusal(model: &Model, fault: FillFault) -> Result<Answer, NoMemory>
+pub fn fill_refusal(model: &Model, fault: FillFault) -> Result<Answer, NoMemory>
     ensures { IfOk result (λ a. ValueRefused model.now fault (outcome_of a)) }
 {
     match fault {

@@ -96,7 +96,8 @@ pub fn missing(
     Ok(out)
 }
 
-fn append(out: &mut Vec<u8>, text: &[u8]) -> Result<(), AllocError>
+/// Writes a text behind what is written.
+pub fn append(out: &mut Vec<u8>, text: &[u8]) -> Result<(), AllocError>
     ensures { OnOk result (out.new.items ≡ out.old.items ++ text.now) }
 {
     out.extend_from_slice(text)?;
@@ -104,7 +105,7 @@ fn append(out: &mut Vec<u8>, text: &[u8]) -> Result<(), AllocError>
 }
 
 /// A line with a count behind its word.
-fn append_count(out: &mut Vec<u8>, word: &[u8], count: u64) -> Result<(), AllocError>
+pub fn append_count(out: &mut Vec<u8>, word: &[u8], count: u64) -> Result<(), AllocError>
     ensures { OnOk result (out.new.items ≡ out.old.items ++ word.now ++ decimal count ++ codes "\n") }
 {
     let mut buffer = Buffer::new();
@@ -132,7 +133,8 @@ fn append_number(out: &mut Vec<u8>, number: i128) -> Result<(), AllocError>
     append(out, buffer.format(number).as_bytes())
 }
 
-fn append_fraction(out: &mut Vec<u8>, fraction: Frac) -> Result<(), AllocError>
+/// Writes a fraction behind what is written.
+pub fn append_fraction(out: &mut Vec<u8>, fraction: Frac) -> Result<(), AllocError>
     ensures { OnOk result (out.new.items ≡ out.old.items ++ fraction_text fraction) }
 {
     let mut text = [0; 96];

@@ -1,0 +1,34 @@
+-- What is so of every answer of `make`, as statements.
+use Rattle.std.specs.Prelude.{◌≡◌, ◌⊎◌, List, Ok}
+use Rattle.emp_num.specs.Point.{Point, StandsFor}
+use Rattle.emp_num.specs.declared.frac.Frac.{Frac}
+use Rattle.emp_ast.specs.declared.model.Model.{Model}
+use Rattle.emp_ast.specs.declared.annot.Annot.{Annot}
+use Rattle.emp_ast.specs.Equilibrium.{IsEquilibrium}
+use Rattle.emp_command.specs.Words.{Asked}
+use Rattle.emp_command.specs.Course.{Outcome, AreFirmsInRange}
+use Rattle.emp_make.specs.Markets.{IsMarket}
+use Rattle.emp_makes.specs.Makes.{OutputGives, ProfitGives, summary, Saves, Makes}
+
+-- a market is summed up, or a number is wide, or the work is spent
+abbrev pub MakesEnd : Type 0
+MakesEnd = (r : Asked) (o : Outcome) → AreFirmsInRange r.firms → Makes r o → (o.status ≡ 0) ⊎ ((o.status ≡ 19) ⊎ (o.status ≡ 20))
+
+-- the sums are those of an equilibrium of a market of the seed
+pub record ShowsSums (r : Asked) (o : Outcome) : Type 0 where
+  pub model : Model
+  pub annot : Annot
+  pub market : IsMarket r.seed r.firms model annot
+  pub values : List Frac
+  pub point : Point
+  pub stands : StandsFor values point
+  pub equilibrium : IsEquilibrium model annot point
+  pub output : Frac
+  pub profit : Frac
+  pub outputs : OutputGives r.firms values (Ok output)
+  pub profits : ProfitGives r.firms values (Ok profit)
+  pub says : o.says ≡ summary r.firms output profit
+  pub stores : Saves model annot r.output o.stores
+
+abbrev pub MadeShows : Type 0
+MadeShows = (r : Asked) (o : Outcome) → Makes r o → o.status ≡ 0 → ShowsSums r o

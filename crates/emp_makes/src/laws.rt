@@ -1,0 +1,12 @@
+//! The laws of what `make` answers.
+ghost use Rattle.emp_makes.specs.Laws.{MakesEnd, MadeShows};
+
+/// A market is summed up, or a number is wide, or the work is spent.
+pub fn makes_end()
+    ensures { MakesEnd }
+{}
+
+/// The sums are those of an equilibrium of a market of the seed.
+pub fn made_shows()
+    ensures { MadeShows }
+{}
