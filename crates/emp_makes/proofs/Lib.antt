@@ -1,0 +1,5 @@
+pub mod Adding
+pub mod Files
+pub mod Deciding
+pub mod Summing
+pub mod Ends

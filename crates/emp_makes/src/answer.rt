@@ -13,7 +13,7 @@ ghost use Rattle.emp_makes.specs.Making.{SaysSums};
 
 use crate::saves::saves;
 use crate::summary::summary;
-use crate::sums::{Totals, totals};
+use crate::sums::{Totals, total};
 use emp_answers::reports::values;
 use emp_answers::said::Answer;
 use emp_answers::solve::{fill_refusal, search, walk_refusal};
@@ -59,7 +59,7 @@ fn over_values(
     requires values { HasValues model.now annot.now values.now }
     ensures { IfOk result (λ a. SumsUp model.now annot.now (asked_of request.now) (outcome_of a)) }
 {
-    match totals(values, request.firms as usize) {
+    match total(values, request.firms as usize) {
         Ok(totals) => sum_up(alloc, request, model, annot, &totals),
         Err(variable) => Ok(Answer::Refusal(19, classes::value_line(model, variable))),
     }

@@ -33,7 +33,7 @@ fn sum(values: &[Frac], first: usize, count: usize) -> Result<Frac, VarId>
 
 /// The sums over so many firms: the values are those of the profits, and then of the outputs. An error is the first variable
 /// whose addition is wide, of the outputs before the profits.
-pub fn totals(values: &[Frac], firms: usize) -> Result<Totals, VarId>
+pub fn total(values: &[Frac], firms: usize) -> Result<Totals, VarId>
     requires within { firms + firms ≤ length values.now }
     requires few { firms ≤ 40 }
     ensures { TotalsGive firms values.now result }
