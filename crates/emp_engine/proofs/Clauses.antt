@@ -4,8 +4,8 @@ use Rattle.std.proofs.lemmas.Bool.{false≢true}
 use Rattle.emp_ast.specs.declared.model.Model.{Model}
 use Rattle.emp_ast.specs.declared.annot.Annot.{Annot}
 use Rattle.emp_desk.specs.Desk.{Contents}
-use Rattle.emp_command.specs.declared.words.Verb.TheVariants.{Solve, Check, Print, Migrate}
-use Rattle.emp_command.specs.Words.{Asked, Asks, solve, check, print, make, migrate, pieces}
+use Rattle.emp_command.specs.declared.words.Verb.TheVariants.{Solve, Check, Print, Make, Migrate}
+use Rattle.emp_command.specs.Words.{Asked}
 use Rattle.emp_command.specs.Course.{Outcome, refusal, StoresAll}
 use Rattle.gms_grammar.specs.declared.fault.ModelFault.{ModelFault}
 use Rattle.gms_grammar.specs.declared.fault.ModelFault.TheVariants as ModelWords
@@ -45,48 +45,10 @@ use Rattle.emp_solution.specs.declared.state.StateFault.TheVariants as StateWord
 use Rattle.emp_solution.specs.Stated.{StateGives}
 use Rattle.emp_solution.proofs.Tells.{stated_tells}
 use Rattle.emp_answers.specs.Answers.{state_status, state_line, Refuses, bad_owner, unstated, ReportOf, Solves, refused, unfinished, unfilled, too_long, answered, Unaccepted, no_rows, bad_text, rejected, wide_sum, IsAccepted, Checks, unaccepted, accepted, Migrates, unmigrated, migrated_long, migrated, Does, prints, solves, checks, migrates, Answers, unbuilt, bad_model, bad_info, done}
-use Rattle.emp_engine.specs.Run.{IsSolve, IsPrint, IsCheck, IsMigrate, HasAccepted, ShowsAccepted, ShowsMigrated, SaysCanonical, ShowsModelFault, ShowsInfoFault, ShowsOwnFault, ShowsNotConvex, IsAnswered}
-use Rattle.emp_engine.proofs.Headline.{first_two, DoneAt, done_now, grows, one_stored, said_alone, refuses_high, unaccepted_high, state_high, walk_high, not_verbs}
+use Rattle.emp_engine.specs.Run.{IsAnswer, over_texts, market, HasAccepted, ShowsAccepted, ShowsMigrated, SaysCanonical, ShowsModelFault, ShowsInfoFault, ShowsOwnFault, ShowsNotConvex, IsAnswered}
+use Rattle.emp_engine.proofs.Headline.{first_two, NotMade, not_by_status, not_by_verb, print_not_make, check_not_make, migrate_not_make, DoneAt, done_now, grows, one_stored, said_alone, refuses_high, unaccepted_high, state_high, walk_high, not_verbs}
 
 -- ---- verbs
-other_words : (v w : List ℕ) (us ws : List (List ℕ)) → bytes_eq v w ≡ false → bytes_eq w w ≡ true → v ∷ us ≡ w ∷ ws → ⊥
-other_words v w us ws f t e = false≢true (sym f ∙ (ap (λ u. bytes_eq u w) (first v w us ws e) ∙ t))
-  where
-    first : (v w : List ℕ) (us ws : List (List ℕ)) → v ∷ us ≡ w ∷ ws → v ≡ w
-    first v w us ws e = cc
-
-pub solve_verb : (words : List (List ℕ)) (r : Asked) → IsSolve words → Asks words r → r.verb ≡ Solve
-solve_verb words r s (solve m i os o n a b c) = refl
-solve_verb words r s (check m i c a b d) = absurd (other_words (codes "check") (codes "solve") (m ∷ i ∷ c ∷ []) s.0 refl refl s.1)
-solve_verb words r s (print m i a b) = absurd (other_words (codes "print") (codes "solve") (m ∷ i ∷ []) s.0 refl refl s.1)
-solve_verb words r s (make t f seed firms os o a b c) = absurd (other_words (codes "make") (codes "solve") (t ∷ f ∷ os) s.0 refl refl s.1)
-solve_verb words r s (migrate m i c o a b d e) = absurd (other_words (codes "migrate") (codes "solve") (m ∷ i ∷ c ∷ o ∷ []) s.0 refl refl s.1)
-solve_verb words r s (pieces m i os n a b c) = absurd (other_words (codes "pieces") (codes "solve") (m ∷ i ∷ os) s.0 refl refl s.1)
-
-pub print_verb : (words : List (List ℕ)) (r : Asked) → IsPrint words → Asks words r → r.verb ≡ Print
-print_verb words r s (print m i a b) = refl
-print_verb words r s (check m i c a b d) = absurd (other_words (codes "check") (codes "print") (m ∷ i ∷ c ∷ []) s.0 refl refl s.1)
-print_verb words r s (solve m i os o n a b c) = absurd (other_words (codes "solve") (codes "print") (m ∷ i ∷ os) s.0 refl refl s.1)
-print_verb words r s (make t f seed firms os o a b c) = absurd (other_words (codes "make") (codes "print") (t ∷ f ∷ os) s.0 refl refl s.1)
-print_verb words r s (migrate m i c o a b d e) = absurd (other_words (codes "migrate") (codes "print") (m ∷ i ∷ c ∷ o ∷ []) s.0 refl refl s.1)
-print_verb words r s (pieces m i os n a b c) = absurd (other_words (codes "pieces") (codes "print") (m ∷ i ∷ os) s.0 refl refl s.1)
-
-pub check_verb : (words : List (List ℕ)) (r : Asked) → IsCheck words → Asks words r → r.verb ≡ Check
-check_verb words r s (check m i c a b d) = refl
-check_verb words r s (print m i a b) = absurd (other_words (codes "print") (codes "check") (m ∷ i ∷ []) s.0 refl refl s.1)
-check_verb words r s (solve m i os o n a b c) = absurd (other_words (codes "solve") (codes "check") (m ∷ i ∷ os) s.0 refl refl s.1)
-check_verb words r s (make t f seed firms os o a b c) = absurd (other_words (codes "make") (codes "check") (t ∷ f ∷ os) s.0 refl refl s.1)
-check_verb words r s (migrate m i c o a b d e) = absurd (other_words (codes "migrate") (codes "check") (m ∷ i ∷ c ∷ o ∷ []) s.0 refl refl s.1)
-check_verb words r s (pieces m i os n a b c) = absurd (other_words (codes "pieces") (codes "check") (m ∷ i ∷ os) s.0 refl refl s.1)
-
-pub migrate_verb : (words : List (List ℕ)) (r : Asked) → IsMigrate words → Asks words r → r.verb ≡ Migrate
-migrate_verb words r s (migrate m i c o a b d e) = refl
-migrate_verb words r s (print m i a b) = absurd (other_words (codes "print") (codes "migrate") (m ∷ i ∷ []) s.0 refl refl s.1)
-migrate_verb words r s (solve m i os o n a b c) = absurd (other_words (codes "solve") (codes "migrate") (m ∷ i ∷ os) s.0 refl refl s.1)
-migrate_verb words r s (make t f seed firms os o a b c) = absurd (other_words (codes "make") (codes "migrate") (t ∷ f ∷ os) s.0 refl refl s.1)
-migrate_verb words r s (check m i c a b d) = absurd (other_words (codes "check") (codes "migrate") (m ∷ i ∷ c ∷ []) s.0 refl refl s.1)
-migrate_verb words r s (pieces m i os n a b c) = absurd (other_words (codes "pieces") (codes "migrate") (m ∷ i ∷ os) s.0 refl refl s.1)
-
 solve_print : Solve ≡ Print → ⊥
 solve_print e = cc
 
@@ -96,13 +58,13 @@ check_print e = cc
 migrate_print : Migrate ≡ Print → ⊥
 migrate_print e = cc
 
-solve_check : Solve ≡ Check → ⊥
+pub solve_check : Solve ≡ Check → ⊥
 solve_check e = cc
 
-print_check : Print ≡ Check → ⊥
+pub print_check : Print ≡ Check → ⊥
 print_check e = cc
 
-migrate_check : Migrate ≡ Check → ⊥
+pub migrate_check : Migrate ≡ Check → ⊥
 migrate_check e = cc
 
 solve_migrate : Solve ≡ Migrate → ⊥
@@ -307,6 +269,10 @@ model_at x r ts o e (bad_model mt it rest f b n h) z =
 model_at x r ts o e (bad_info mt it rest m f b t n h) z = absurd (omega arith)
 model_at x r ts o e (done mt it rest m a p b t i h) z = absurd (does_not m a r rest p h (omega (arith, z)) (omega (arith, z)))
 
+model_now : (x : Contents) (r : Asked) (ts : List (List ℕ)) (o : Outcome) → map x.holds r.files ≡ ts → NotMade r o → IsAnswer r ts o → o.status ≡ 14 → ModelAt x r o
+model_now x r ts o e n (over_texts us p h) z = model_at x r us p e h z
+model_now x r ts o e n (market p v h) z = absurd (n v h)
+
 record InfoAt (x : Contents) (r : Asked) (o : Outcome) : Type 0 where
   model_file : List ℕ
   info_file : List ℕ
@@ -340,25 +306,29 @@ info_at x r ts o e (bad_info mt it rest m f b k n h) z =
     }
 info_at x r ts o e (done mt it rest m a p b t i h) z = absurd (does_not m a r rest p h (omega (arith, z)) (omega (arith, z)))
 
+info_now : (x : Contents) (r : Asked) (ts : List (List ℕ)) (o : Outcome) → map x.holds r.files ≡ ts → NotMade r o → IsAnswer r ts o → o.status ≡ 15 → InfoAt x r o
+info_now x r ts o e n (over_texts us p h) z = info_at x r us p e h z
+info_now x r ts o e n (market p v h) z = absurd (n v h)
+
 -- ---- the clauses
 module _ (words : List (List ℕ)) (x y : Contents) (end : ℕ) (n : IsAnswered words x y end) where
   pub says_canonical : n.request.verb ≡ Print → end ≡ 0 → SaysCanonical words x y
   says_canonical v z =
-      let d = done_now words x y end n (inl (omega (arith, z))) in
+      let d = done_now words x y end n (not_by_verb n.request n.outcome Print print_not_make v) (inl (omega (arith, z))) in
       let h = printed_at d.model d.annot n.request d.rest n.outcome d.does v in
       record { model = d.model; annot = d.annot; texts = d.texts; canonical = h.text; is = h.canonical; said = said_alone words x y end n (h.text ++ info_text d.model d.annot) h.stores h.says }
 
   pub shows_accepted : n.request.verb ≡ Check → end ≡ 0 → ShowsAccepted words x y
   unfolding has_accepted
   shows_accepted v z =
-      let d = done_now words x y end n (inl (omega (arith, z))) in
+      let d = done_now words x y end n (not_by_verb n.request n.outcome Check check_not_make v) (inl (omega (arith, z))) in
       let h = accepted_at d.model d.annot n.request d.rest n.outcome d.does v (n.is ∙ z) in
       record { has = has_accepted words x n.request n.outcome d h.ct h.stated h.cert h.rest_is h.is; said = grows words x y end n (accepted_line h.cert.verdict) h.says }
 
   pub shows_migrated : n.request.verb ≡ Migrate → end ≡ 0 → ShowsMigrated words x y
   unfolding has_accepted
   shows_migrated v z =
-      let d = done_now words x y end n (inl (omega (arith, z))) in
+      let d = done_now words x y end n (not_by_verb n.request n.outcome Migrate migrate_not_make v) (inl (omega (arith, z))) in
       let h = migrated_at d.model d.annot n.request d.rest n.outcome d.does v (n.is ∙ z) in
       record {
         has = has_accepted words x n.request n.outcome d h.ct h.stated h.cert h.rest_is h.is;
@@ -372,12 +342,12 @@ module _ (words : List (List ℕ)) (x y : Contents) (end : ℕ) (n : IsAnswered 
 
   pub shows_model_fault : end ≡ 14 → ShowsModelFault words x y
   shows_model_fault z =
-      let h = model_at x n.request (map x.holds n.request.files) n.outcome refl n.answers (n.is ∙ z) in
+      let h = model_now x n.request (map x.holds n.request.files) n.outcome refl (not_by_status words x y end n (omega (arith, z), omega (arith, z))) n.answers (n.is ∙ z) in
       record { request = n.request; asked = n.asked; model_file = h.model_file; others = h.others; files = h.files; fault = h.fault; named = h.named; refuses = h.refuses; said = said_alone words x y end n (model_line h.fault) h.stores h.says }
 
   pub shows_info_fault : end ≡ 15 → ShowsInfoFault words x y
   shows_info_fault z =
-      let h = info_at x n.request (map x.holds n.request.files) n.outcome refl n.answers (n.is ∙ z) in
+      let h = info_now x n.request (map x.holds n.request.files) n.outcome refl (not_by_status words x y end n (omega (arith, z), omega (arith, z))) n.answers (n.is ∙ z) in
       record {
         request = n.request;
         asked = n.asked;
@@ -395,12 +365,12 @@ module _ (words : List (List ℕ)) (x y : Contents) (end : ℕ) (n : IsAnswered 
 
   pub shows_own_fault : end ≡ 16 → ShowsOwnFault words x y
   shows_own_fault z =
-      let d = done_now words x y end n (inr (omega (arith, z), omega (arith, z))) in
+      let d = done_now words x y end n (not_by_status words x y end n (omega (arith, z), omega (arith, z))) (inr (omega (arith, z), omega (arith, z))) in
       let h = refuses_owner d.model d.annot n.outcome (does_refused d.model d.annot n.request d.rest n.outcome d.does (omega (arith, z, n.is)) (omega (arith, z, n.is))) (n.is ∙ z) in
       record { model = d.model; annot = d.annot; texts = d.texts; fault = h.fault; named = h.named; broken = h.broken; said = said_alone words x y end n (own_line d.model h.fault) h.stores h.says }
 
   pub shows_not_convex : end ≡ 18 → ShowsNotConvex words x y
   shows_not_convex z =
-      let d = done_now words x y end n (inr (omega (arith, z), omega (arith, z))) in
+      let d = done_now words x y end n (not_by_status words x y end n (omega (arith, z), omega (arith, z))) (inr (omega (arith, z), omega (arith, z))) in
       let h = refuses_bent d.model d.annot n.outcome (does_refused d.model d.annot n.request d.rest n.outcome d.does (omega (arith, z, n.is)) (omega (arith, z, n.is))) (n.is ∙ z) in
       record { model = d.model; annot = d.annot; texts = d.texts; block = h.block; own = h.own; not = h.not; said = said_alone words x y end n (convex_line h.block h.own) h.stores h.says }

@@ -3,17 +3,21 @@ use Rattle.std.proofs.Common.{◌≡◌, ◌≢◌, ℕ, true, List, Option, ref
 use Rattle.emp_desk.specs.Desk.{Place, Contents, Told}
 use Rattle.emp_command.specs.Course.{Runs}
 use Rattle.emp_command.proofs.Telling.{told_map}
-use Rattle.emp_answers.specs.Answers.{Answers}
-use Rattle.emp_engine.specs.Run.{IsSolve, IsPrint, IsCheck, IsMigrate, SaysPoint, ShowsNone, SaysRay, ShowsAccepted, ShowsMigrated, SaysCanonical, ShowsModelFault, ShowsInfoFault, ShowsOwnFault, ShowsNotConvex, ShowsCause, is_caused, IsAnswered, IsComplete, DoesWhole, KeepsOthers, NothingRose}
+use Rattle.emp_engine.specs.Run.{IsAnswer, IsSolve, IsPrint, IsCheck, IsMigrate, IsMake, SaysPoint, ShowsNone, SaysRay, ShowsAccepted, ShowsMigrated, SaysCanonical, ShowsModelFault, ShowsInfoFault, ShowsOwnFault, ShowsNotConvex, ShowsMarket, ShowsCause, is_caused, IsAnswered, IsComplete, MakesWhole, DoesWhole, DecidesWhole, OwnWhole, is_refusal, SaysRefusal, KeepsOthers, NothingRose}
 use Rattle.emp_engine.specs.Ends.{Ends}
 use Rattle.emp_engine.proofs.Answered.{answered_now, runs_whole, keeps_others}
 use Rattle.emp_engine.proofs.Headline.{says_point, shows_none, says_ray}
-use Rattle.emp_engine.proofs.Clauses.{solve_verb, print_verb, check_verb, migrate_verb, says_canonical, shows_accepted, shows_migrated, shows_model_fault, shows_info_fault, shows_own_fault, shows_not_convex}
+use Rattle.emp_engine.proofs.Verbs.{solve_verb, print_verb, check_verb, migrate_verb, make_verb}
+use Rattle.emp_engine.proofs.Clauses.{says_canonical, shows_accepted, shows_migrated, shows_model_fault, shows_info_fault, shows_own_fault, shows_not_convex}
 use Rattle.emp_engine.proofs.Whole.{either_done}
+use Rattle.emp_engine.proofs.Selling.{shows_market, either_made}
+use Rattle.emp_engine.proofs.Refused.{says_refusal}
+use Rattle.emp_engine.proofs.Deciding.{either_decided}
+use Rattle.emp_engine.proofs.Owned.{either_passes}
 
 module _ (words : List (List ℕ)) (f0 f1 : Place → ℕ) (t0 t1 : Option Contents) (end : ℕ) (ends : Ends words f0 f1 t0 t1 end) where
   abbrev RunsNow : Contents → Contents → Type 0
-  RunsNow x y = Runs Answers words f0 f1 x y end
+  RunsNow x y = Runs IsAnswer words f0 f1 x y end
 
   -- what was answered over the texts tells it
   by_answer : (R : Contents → Contents → Type 0) → is_caused end ≡ true → ((x y : Contents) → IsAnswered words x y end → R x y) → Told R t0 t1
@@ -52,11 +56,17 @@ module _ (words : List (List ℕ)) (f0 f1 : Place → ℕ) (t0 t1 : Option Conte
   pub ends_not_convex : end ≡ 18 → Told (ShowsNotConvex words) t0 t1
   ends_not_convex e = by_answer (ShowsNotConvex words) (caused 18 e refl) (λ x y n. shows_not_convex words x y end n e)
 
+  pub ends_market : IsMake words → end ≡ 0 → Told (ShowsMarket words) t0 t1
+  ends_market s e = by_answer (ShowsMarket words) (caused 0 e refl) (λ x y n. shows_market words x y end n (make_verb words n.request s n.asked) e)
+
   pub ends_caused : is_caused end ≡ true → Told (ShowsCause end words) t0 t1
   ends_caused ok = by_answer (ShowsCause end words) ok (λ x y n. n)
 
   pub ends_files : Told (KeepsOthers words) t0 t1
   ends_files = told_map RunsNow (KeepsOthers words) (λ x y r. keeps_others words f0 f1 x y end r) t0 t1 ends.course
+
+  pub ends_refused : is_refusal end ≡ true → Told (SaysRefusal end words) t0 t1
+  ends_refused ok = told_map RunsNow (SaysRefusal end words) (λ x y r. says_refusal words f0 f1 x y end ok r) t0 t1 ends.course
 
   module _ (quiet : NothingRose words f0 f1) where
     said : end ≢ 12
@@ -65,5 +75,14 @@ module _ (words : List (List ℕ)) (f0 f1 : Place → ℕ) (t0 t1 : Option Conte
     pub ends_whole : Told (IsComplete words end) t0 t1
     ends_whole = told_map RunsNow (IsComplete words end) (λ x y r plain reach. runs_whole words f0 f1 x y quiet plain reach end said r) t0 t1 ends.course
 
+    pub ends_made : Told (MakesWhole words end) t0 t1
+    ends_made = told_map RunsNow (MakesWhole words end) (λ x y r make plain reach. either_made words x y end make (runs_whole words f0 f1 x y quiet plain reach end said r)) t0 t1 ends.course
+
     pub ends_done : Told (DoesWhole words end) t0 t1
     ends_done = told_map RunsNow (DoesWhole words end) (λ x y r m a plain reach names. either_done words x y end m a names (runs_whole words f0 f1 x y quiet plain reach end said r)) t0 t1 ends.course
+
+    pub ends_decided : Told (DecidesWhole words end) t0 t1
+    ends_decided = told_map RunsNow (DecidesWhole words end) (λ x y r solves m a pair plain reach names. either_decided m a pair words x y end solves (either_done words x y end m a names (runs_whole words f0 f1 x y quiet plain reach end said r))) t0 t1 ends.course
+
+    pub ends_own : Told (OwnWhole words end) t0 t1
+    ends_own = told_map RunsNow (OwnWhole words end) (λ x y r checks own plain reach. either_passes words x checks own y end (runs_whole words f0 f1 x y quiet plain reach end said r)) t0 t1 ends.course

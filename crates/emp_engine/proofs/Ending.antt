@@ -1,5 +1,5 @@
 -- How a call ends, from how its steps end.
-use Rattle.std.proofs.Common.{◌≡◌, ◌≢◌, ℕ, ◌+◌, ◌<◌, true, ◌⊎◌, inl, inr, List, [], ◌∷◌, ◌++◌, length, Option, Some, None, arith, refl, sym, subst, ◌∙◌}
+use Rattle.std.proofs.Common.{◌≡◌, ◌≢◌, ℕ, ◌+◌, ◌<◌, true, ◌⊎◌, inl, inr, List, [], ◌∷◌, ◌++◌, length, Option, Some, None, arith, refl, sym, ap, subst, ◌∙◌}
 use Rattle.emp_desk.specs.Desk.{Place, loads, output, Contents, Told, KeepsAll, SaysPrefix, Rose, NoneFalls}
 use Rattle.emp_command.specs.declared.refusal.Refusal.{Refusal}
 use Rattle.emp_command.specs.declared.refusal.Refusal.TheVariants.{BadWords, BadWork, BadFirms, Unread, TooLong, Unwritten, NoMemory}
@@ -10,16 +10,17 @@ use Rattle.emp_command.specs.Refusals.{line_of, status_of, IsLong, SomeUnloaded,
 use Rattle.emp_command.specs.Deliveries.{SomeStoreRose}
 use Rattle.emp_command.proofs.Telling.{told_join, told_both, told_map, rose_first, rose_second}
 use Rattle.std.proofs.lemmas.Bool.{false≢true}
-use Rattle.emp_command.specs.declared.words.Verb.TheVariants.{Solve, Check, Print, Migrate}
+use Rattle.emp_command.specs.declared.words.Verb.TheVariants.{Solve, Check, Print, Make, Migrate}
 use Rattle.emp_answers.specs.Outcomes.{AreTexts, OutputFits}
-use Rattle.emp_answers.specs.Answers.{is_built, Answers}
-use Rattle.emp_engine.specs.Run.{SomeLoadRose, SomeWriteRose, IsStatus}
+use Rattle.emp_answers.specs.Answers.{is_built}
+use Rattle.emp_engine.specs.Run.{IsMake, is_market_status, IsAnswer, SomeLoadRose, SomeWriteRose, IsStatus}
+use Rattle.emp_engine.proofs.Verbs.{make_verb}
 use Rattle.emp_engine.specs.Ends.{SayCause, IsOutOfRange, IsRequest, Ends}
 
 keeps_then : (x y z : Contents) → KeepsAll x y → KeepsAll y z → KeepsAll x z
 keeps_then x y z h k = record { files = λ name. k.files name ∙ h.files name; said = k.said ∙ h.said }
 
-kept : (t : Option Contents) → Told KeepsAll t t
+pub kept : (t : Option Contents) → Told KeepsAll t t
 kept None = tt
 kept (Some x) = record { files = λ name. refl; said = refl }
 
@@ -40,12 +41,12 @@ delivers_after o x y z end k (unstored s l b c i st sa) = unstored s l b c i (pa
 
 module _ (words : List (List ℕ)) (f0 f1 f2 : Place → ℕ) (t0 t1 t2 : Option Contents) (first : NoneFalls f0 f1) (keeps : Told KeepsAll t0 t1) where
   abbrev DueNow : Outcome → Contents → Contents → Type 0
-  DueNow o x y = IsDue Answers words f0 f2 x o
+  DueNow o x y = IsDue IsAnswer words f0 f2 x o
 
   -- what is due, once it is delivered
-  course_of : (o : Outcome) (end : ℕ) → Told (DueNow o) t0 t1 → Told (λ x y. Delivers o x y end) t1 t2 → Told (λ x y. Runs Answers words f0 f2 x y end) t0 t2
+  course_of : (o : Outcome) (end : ℕ) → Told (DueNow o) t0 t1 → Told (λ x y. Delivers o x y end) t1 t2 → Told (λ x y. Runs IsAnswer words f0 f2 x y end) t0 t2
   course_of o end due del =
-      told_join (λ x y. DueNow o x y × KeepsAll x y) (λ x y. Delivers o x y end) (λ x y. Runs Answers words f0 f2 x y end)
+      told_join (λ x y. DueNow o x y × KeepsAll x y) (λ x y. Delivers o x y end) (λ x y. Runs IsAnswer words f0 f2 x y end)
       (λ x y z p d. delivered o end p.0 (delivers_after o x y z end p.1 d)) t0 t1 t2
       (told_both (DueNow o) KeepsAll (λ x y. DueNow o x y × KeepsAll x y) (λ x y d k. (d, k)) t0 t1 due keeps) del
 
@@ -75,12 +76,22 @@ module _ (words : List (List ℕ)) (f0 f1 f2 : Place → ℕ) (t0 t1 t2 : Option
   status_answers o end s (inr (inl e)) = subst IsStatus (sym e) refl
   status_answers o end s (inr (inr e)) = subst IsStatus (sym e.0) refl
 
-  pub delivered_ends : (o : Outcome) (end : ℕ) → IsStatus o.status → o.status ≢ 12 → (o.status ≡ 11 → SomeLoadRose words f0 f2) → Writes o → Told (DueNow o) t0 t1 → Told (λ x y. Delivers o x y end) t1 t2 → Cause o end → Ends words f0 f2 t0 t2 end
-  delivered_ends o end s n rose w due del cause = record {
+  -- a status of `make`, where the words are its
+  abbrev pub Market : ℕ → Type 0
+  Market s = IsMake words → is_market_status s ≡ true
+
+  market_of : (o : Outcome) (end : ℕ) → Market o.status → Cause o end → Market end
+  market_of o end m (inl e) = λ h. ap is_market_status e ∙ m h
+  market_of o end m (inr (inl e)) = λ h. ap is_market_status e
+  market_of o end m (inr (inr e)) = λ h. ap is_market_status e.0
+
+  pub delivered_ends : (o : Outcome) (end : ℕ) → IsStatus o.status → o.status ≢ 12 → (o.status ≡ 11 → SomeLoadRose words f0 f2) → Market o.status → Writes o → Told (DueNow o) t0 t1 → Told (λ x y. Delivers o x y end) t1 t2 → Cause o end → Ends words f0 f2 t0 t2 end
+  delivered_ends o end s n rose m w due del cause = record {
     course = course_of o end due del;
     unread = unread_of o end rose cause;
     unwritten = unwritten_of o end n w cause;
     answers = status_answers o end s cause;
+    makes = market_of o end m cause;
   }
 
   -- nothing is stored with a refusal
@@ -120,22 +131,25 @@ module _ (words : List (List ℕ)) (f0 f1 f2 : Place → ℕ) (t0 t1 t2 : Option
     unloaded_status (TooLong k most) h = (refl, (λ e. omega arith), (λ e. absurd (omega arith)))
     unloaded_status (Unread k) h = (refl, (λ e. omega arith), (λ e. (r, h.earlier, h.name, h.later, asks, h.files, rose_later (loads h.name) h.why.1)))
 
-    pub unloaded_ends : (f : Refusal) (end : ℕ) → SomeUnloaded r.files f0 f1 t0 t1 f → Told (λ x y. Delivers (refusal (status_of f) (line_of f)) x y end) t1 t2 → Cause (refusal (status_of f) (line_of f)) end → Ends words f0 f2 t0 t2 end
-    unloaded_ends f end h del cause = let s = unloaded_status f h in delivered_ends (refusal (status_of f) (line_of f)) end s.0 s.1 s.2 (no_writes (status_of f) (line_of f)) (unloaded_due f h) del cause
+    other_verb : (s : ℕ) → r.verb ≢ Make → Market s
+    other_verb s n h = absurd (n (make_verb words r h asks))
+
+    pub unloaded_ends : r.verb ≢ Make → (f : Refusal) (end : ℕ) → SomeUnloaded r.files f0 f1 t0 t1 f → Told (λ x y. Delivers (refusal (status_of f) (line_of f)) x y end) t1 t2 → Cause (refusal (status_of f) (line_of f)) end → Ends words f0 f2 t0 t2 end
+    unloaded_ends v f end h del cause = let s = unloaded_status f h in delivered_ends (refusal (status_of f) (line_of f)) end s.0 s.1 s.2 (other_verb (status_of f) v) (no_writes (status_of f) (line_of f)) (unloaded_due f h) del cause
 
     -- no memory for the answer
     pub starved_ends : (end : ℕ) → Told (λ x y. Delivers (refusal 21 (line_of NoMemory)) x y end) t1 t2 → Cause (refusal 21 (line_of NoMemory)) end → Ends words f0 f2 t0 t2 end
     starved_ends end del cause =
-        delivered_ends (refusal 21 (line_of NoMemory)) end refl (λ e. omega arith) (λ e. absurd (omega arith)) (no_writes 21 (line_of NoMemory)) (told_map KeepsAll (DueNow (refusal 21 (line_of NoMemory))) (λ x y k. no_memory r asks range) t0 t1 keeps) del cause
+        delivered_ends (refusal 21 (line_of NoMemory)) end refl (λ e. omega arith) (λ e. absurd (omega arith)) (λ h. refl) (no_writes 21 (line_of NoMemory)) (told_map KeepsAll (DueNow (refusal 21 (line_of NoMemory))) (λ x y k. no_memory r asks range) t0 t1 keeps) del cause
 
 -- ---- words that are not plain, and numbers out of range
 module _ (words : List (List ℕ)) (f0 f2 : Place → ℕ) (t0 t2 : Option Contents) where
   abbrev Refused : Refusal → ℕ → Type 0
   Refused f end = ((end ≡ 12) × Rose (f0 output) (f2 output)) ⊎ (end ≡ status_of f)
 
-  refused_runs : (f : Refusal) (end : ℕ) → NeedsNoMemory words → (status_of f ≡ 10) ⊎ (status_of f ≡ 24) → ((x : Contents) → IsDue Answers words f0 f2 x (refusal (status_of f) (line_of f))) → Refused f end → (x y : Contents) → SaysPrefix (line_of f) x y → Runs Answers words f0 f2 x y end
+  refused_runs : (f : Refusal) (end : ℕ) → NeedsNoMemory words → (status_of f ≡ 10) ⊎ (status_of f ≡ 24) → ((x : Contents) → IsDue IsAnswer words f0 f2 x (refusal (status_of f) (line_of f))) → Refused f end → (x y : Contents) → SaysPrefix (line_of f) x y → Runs IsAnswer words f0 f2 x y end
   refused_runs f end need kind due (inl h) x y s = delivered (refusal (status_of f) (line_of f)) end (due x) (unsaid end x (inl h.0) (record { files = λ name. refl; said = refl }) s)
-  refused_runs f end need kind due (inr e) x y s = subst (Runs Answers words f0 f2 x y) (sym e) (cut_short (refusal (status_of f) (line_of f)) need kind (due x) s)
+  refused_runs f end need kind due (inr e) x y s = subst (Runs IsAnswer words f0 f2 x y) (sym e) (cut_short (refusal (status_of f) (line_of f)) need kind (due x) s)
 
   ten_or : (s : ℕ) → (s ≡ 10) ⊎ (s ≡ 24) → IsStatus s × (s ≢ 11) × (s ≢ 12)
   ten_or s (inl e) = (subst IsStatus (sym e) refl, (λ h. omega arith), (λ h. omega arith))
@@ -153,12 +167,21 @@ module _ (words : List (List ℕ)) (f0 f2 : Place → ℕ) (t0 t2 : Option Conte
   refused_answers f end s (inl h) = subst IsStatus (sym h.0) refl
   refused_answers f end s (inr h) = subst IsStatus (sym h) s
 
-  pub refused_ends : (f : Refusal) (end : ℕ) → NeedsNoMemory words → (status_of f ≡ 10) ⊎ (status_of f ≡ 24) → ((x : Contents) → IsDue Answers words f0 f2 x (refusal (status_of f) (line_of f))) → Told (SaysPrefix (line_of f)) t0 t2 → Refused f end → Ends words f0 f2 t0 t2 end
+  of_market : (s : ℕ) → (s ≡ 10) ⊎ (s ≡ 24) → is_market_status s ≡ true
+  of_market s (inl e) = ap is_market_status e
+  of_market s (inr e) = ap is_market_status e
+
+  refused_makes : (f : Refusal) (end : ℕ) → (status_of f ≡ 10) ⊎ (status_of f ≡ 24) → Refused f end → IsMake words → is_market_status end ≡ true
+  refused_makes f end kind (inl h) w = ap is_market_status h.0
+  refused_makes f end kind (inr e) w = ap is_market_status e ∙ of_market (status_of f) kind
+
+  pub refused_ends : (f : Refusal) (end : ℕ) → NeedsNoMemory words → (status_of f ≡ 10) ⊎ (status_of f ≡ 24) → ((x : Contents) → IsDue IsAnswer words f0 f2 x (refusal (status_of f) (line_of f))) → Told (SaysPrefix (line_of f)) t0 t2 → Refused f end → Ends words f0 f2 t0 t2 end
   refused_ends f end need kind due said h = record {
-    course = told_map (SaysPrefix (line_of f)) (λ x y. Runs Answers words f0 f2 x y end) (refused_runs f end need kind due h) t0 t2 said;
+    course = told_map (SaysPrefix (line_of f)) (λ x y. Runs IsAnswer words f0 f2 x y end) (refused_runs f end need kind due h) t0 t2 said;
     unread = refused_unread f end (ten_or (status_of f) kind).1 h;
     unwritten = refused_unwritten f end (ten_or (status_of f) kind).2 h;
     answers = refused_answers f end (ten_or (status_of f) kind).0 h;
+    makes = refused_makes f end kind h;
   }
 
   pub bad_words_ends : (end : ℕ) → (IsPlain words → ⊥) → Told (SaysPrefix bad_words_line) t0 t2 → Refused BadWords end → Ends words f0 f2 t0 t2 end
@@ -193,16 +216,16 @@ as_print texts h = record { model = h.model; info = h.info; rest = h.rest; are =
 as_migrate : (texts : List (List ℕ)) → AreTexts Check texts → AreTexts Migrate texts
 as_migrate texts h = record { model = h.model; info = h.info; rest = h.rest; are = h.are; model_short = h.model_short; info_short = h.info_short; fits = h.fits }
 
-texts_fit : (words : List (List ℕ)) (r : Asked) → Asks words r → is_built r ≡ true → (texts : List (List ℕ)) → length texts ≡ length r.files → TextsFit 1 texts → AreTexts r.verb texts
-texts_fit words r (solve m i os o n a b c) h texts e f = two_fit texts e f
-texts_fit words r (print m i a b) h texts e f = as_print texts (two_fit texts e f)
-texts_fit words r (check m i c a b d) h texts e f = three_fit texts e f
-texts_fit words r (migrate m i c o a b d g) h texts e f = as_migrate texts (three_fit texts e f)
-texts_fit words r (make t k seed firms os o a b c) h texts e f = absurd (false≢true h)
-texts_fit words r (pieces m i os n a b c) h texts e f = absurd (false≢true h)
+texts_fit : (words : List (List ℕ)) (r : Asked) → Asks words r → r.verb ≢ Make → is_built r ≡ true → (texts : List (List ℕ)) → length texts ≡ length r.files → TextsFit 1 texts → AreTexts r.verb texts
+texts_fit words r (solve m i os o k a b c) n h texts e f = two_fit texts e f
+texts_fit words r (print m i a b) n h texts e f = as_print texts (two_fit texts e f)
+texts_fit words r (check m i c a b d) n h texts e f = three_fit texts e f
+texts_fit words r (migrate m i c o a b d g) n h texts e f = as_migrate texts (three_fit texts e f)
+texts_fit words r (make t k seed firms os o a b c) n h texts e f = absurd (n refl)
+texts_fit words r (pieces m i os k a b c) n h texts e f = absurd (false≢true h)
 
-pub request_texts : (r : Asked) → IsRequest r → is_built r ≡ true → (texts : List (List ℕ)) → length texts ≡ length r.files → TextsFit 1 texts → AreTexts r.verb texts
-request_texts r p b texts e f = texts_fit p.0 r p.1 b texts e f
+pub request_texts : (r : Asked) → IsRequest r → r.verb ≢ Make → is_built r ≡ true → (texts : List (List ℕ)) → length texts ≡ length r.files → TextsFit 1 texts → AreTexts r.verb texts
+request_texts r p n b texts e f = texts_fit p.0 r p.1 n b texts e f
 
 output_fits : (words : List (List ℕ)) (r : Asked) → Asks words r → OutputFits r.verb r.output
 output_fits words r (solve m i os o n a b c) = tt

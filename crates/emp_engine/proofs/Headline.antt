@@ -8,7 +8,7 @@ use Rattle.emp_ast.specs.declared.annot.Annot.{Annot}
 use Rattle.emp_ast.specs.Names.{variable_names}
 use Rattle.emp_desk.specs.Desk.{Contents, Says}
 use Rattle.emp_command.specs.declared.words.Verb.{Verb}
-use Rattle.emp_command.specs.declared.words.Verb.TheVariants.{Solve, Check, Print, Migrate}
+use Rattle.emp_command.specs.declared.words.Verb.TheVariants.{Solve, Check, Print, Make, Migrate}
 use Rattle.emp_command.specs.Words.{Asked, Asks}
 use Rattle.emp_command.specs.Course.{Outcome, StoresAll}
 use Rattle.gms_read.specs.Texts.{IsModelText}
@@ -36,7 +36,9 @@ use Rattle.emp_solution.proofs.Back.{filled_is_file, spread_is_step}
 use Rattle.emp_subst.specs.Fill.{spread}
 use Rattle.emp_report.specs.Report.{unbounded_report}
 use Rattle.emp_answers.specs.Answers.{state_status, Refuses, bad_owner, unstated, walk_status, ReportOf, Solves, refused, unfinished, unfilled, too_long, answered, Unaccepted, no_rows, bad_text, rejected, wide_sum, Checks, unaccepted, accepted, Migrates, unmigrated, migrated_long, migrated, Does, prints, solves, checks, migrates, Answers, unbuilt, bad_model, bad_info, done}
-use Rattle.emp_engine.specs.Run.{TextsSay, Grows, IsSolution, point_report, SaysPoint, ShowsNone, SaysRay, IsAnswered}
+use Rattle.emp_engine.specs.Run.{TextsSay, Grows, IsSolution, point_report, SaysPoint, ShowsNone, SaysRay, IsAnswer, over_texts, market, IsAnswered}
+use Rattle.emp_makes.specs.Makes.{Makes}
+use Rattle.emp_makes.proofs.Ends.{makes_end}
 
 -- ---- the files of a request
 pub record FirstTwo (x : Contents) (fs : List (List ℕ)) (mt it : List ℕ) (rest : List (List ℕ)) : Type 0 where
@@ -89,8 +91,43 @@ done_at words x r ts o asks e (done mt it rest m a p b t i h) l =
     let f = first_two x r.files mt it rest e in
     record { model = m; annot = a; rest = rest; others = f.others; texts = texts_say words x r mt it rest m a asks f t i; request = refl; others_are = refl; rest_is = f.rest_is; does = h }
 
-pub done_now : (words : List (List ℕ)) (x y : Contents) (end : ℕ) (n : IsAnswered words x y end) → (end < 3) ⊎ ((15 < end) × (end < 30)) → DoneAt words x n.request n.outcome
-done_now words x y end n l = done_at words x n.request (map x.holds n.request.files) n.outcome n.asked refl n.answers (subst (λ s. (s < 3) ⊎ ((15 < s) × (s < 30))) (sym n.is) l)
+pub solve_not_make : Solve ≡ Make → ⊥
+solve_not_make e = cc
+
+pub print_not_make : Print ≡ Make → ⊥
+print_not_make e = cc
+
+pub check_not_make : Check ≡ Make → ⊥
+check_not_make e = cc
+
+pub migrate_not_make : Migrate ≡ Make → ⊥
+migrate_not_make e = cc
+
+-- a market's statuses
+pub made_status : (words : List (List ℕ)) (x y : Contents) (end : ℕ) (n : IsAnswered words x y end) → n.request.verb ≡ Make → Makes n.request n.outcome → (end ≡ 0) ⊎ ((end ≡ 19) ⊎ (end ≡ 20))
+made_status words x y end n v h = subst (λ s. (s ≡ 0) ⊎ ((s ≡ 19) ⊎ (s ≡ 20))) n.is (makes_end n.request n.outcome (n.range.1 v) h)
+
+-- the answer is over texts
+abbrev pub NotMade : Asked → Outcome → Type 0
+NotMade r o = r.verb ≡ Make → Makes r o → ⊥
+
+pub not_by_status : (words : List (List ℕ)) (x y : Contents) (end : ℕ) (n : IsAnswered words x y end) → (0 < end) × (end < 19) → NotMade n.request n.outcome
+not_by_status words x y end n l v h = go (made_status words x y end n v h)
+  where
+    go : (end ≡ 0) ⊎ ((end ≡ 19) ⊎ (end ≡ 20)) → ⊥
+    go (inl e) = omega (arith, l.0, e)
+    go (inr (inl e)) = omega (arith, l.1, e)
+    go (inr (inr e)) = omega (arith, l.1, e)
+
+pub not_by_verb : (r : Asked) (o : Outcome) (v : Verb) → (v ≡ Make → ⊥) → r.verb ≡ v → NotMade r o
+not_by_verb r o v n e w h = n (sym e ∙ w)
+
+answer_done : (words : List (List ℕ)) (x : Contents) (r : Asked) (ts : List (List ℕ)) (o : Outcome) → Asks words r → map x.holds r.files ≡ ts → NotMade r o → IsAnswer r ts o → (o.status < 3) ⊎ ((15 < o.status) × (o.status < 30)) → DoneAt words x r o
+answer_done words x r ts o asks e n (over_texts us p h) l = done_at words x r us p asks e h l
+answer_done words x r ts o asks e n (market p v h) l = absurd (n v h)
+
+pub done_now : (words : List (List ℕ)) (x y : Contents) (end : ℕ) (n : IsAnswered words x y end) → NotMade n.request n.outcome → (end < 3) ⊎ ((15 < end) × (end < 30)) → DoneAt words x n.request n.outcome
+done_now words x y end n not l = answer_done words x n.request (map x.holds n.request.files) n.outcome n.asked refl not n.answers (subst (λ s. (s < 3) ⊎ ((15 < s) × (s < 30))) (sym n.is) l)
 
 -- ---- what is stored and said
 stores_keep_said : (ss : List (List ℕ × List ℕ)) (a b : Contents) → StoresAll ss a b → b.said ≡ a.said
@@ -163,13 +200,13 @@ found_at m a r o (answered s f t i g k q) l = record { stated = s; is = i; found
 pub not_verbs : (v w u : Verb) → v ≡ w → v ≡ u → w ≡ u
 not_verbs v w u e f = sym e ∙ f
 
-print_not : Print ≡ Solve → ⊥
+pub print_not : Print ≡ Solve → ⊥
 print_not e = cc
 
-check_not : Check ≡ Solve → ⊥
+pub check_not : Check ≡ Solve → ⊥
 check_not e = cc
 
-migrate_not : Migrate ≡ Solve → ⊥
+pub migrate_not : Migrate ≡ Solve → ⊥
 migrate_not e = cc
 
 pub solve_found : (m : Model) (a : Annot) (r : Asked) (rest : List (List ℕ)) (o : Outcome) → Does m a r rest o → r.verb ≡ Solve → o.status < 3 → FoundAt m a r o
@@ -278,7 +315,7 @@ module _ (m : Model) (a : Annot) (s : Stated) (i : IsStated m a s) (f : Found) (
 module _ (words : List (List ℕ)) (x y : Contents) (end : ℕ) (n : IsAnswered words x y end) where
   pub says_point : n.request.verb ≡ Solve → end ≡ 0 → SaysPoint words x y
   says_point v z =
-      let d = done_now words x y end n (inl (omega (arith, z))) in
+      let d = done_now words x y end n (not_by_verb n.request n.outcome Solve solve_not_make v) (inl (omega (arith, z))) in
       let h = solve_found d.model d.annot n.request d.rest n.outcome d.does v (omega (arith, z, n.is)) in
       let p = point_at d.model d.annot h.stated h.is h.found n.request.work h.gives h.found.cert.verdict h.report refl h.reports (sym h.status ∙ (n.is ∙ z)) in
       record {
@@ -295,13 +332,13 @@ module _ (words : List (List ℕ)) (x y : Contents) (end : ℕ) (n : IsAnswered 
 
   pub shows_none : end ≡ 1 → ShowsNone words x y
   shows_none z =
-      let d = done_now words x y end n (inl (omega (arith, z))) in
+      let d = done_now words x y end n (not_by_status words x y end n (omega (arith, z), omega (arith, z))) (inl (omega (arith, z))) in
       let h = other_found d.model d.annot n.request d.rest n.outcome d.does (omega (arith, z, n.is)) (omega (arith, z, n.is)) in
       record { model = d.model; annot = d.annot; texts = d.texts; none = none_at d.model d.annot h.stated h.is h.found n.request.work h.gives h.found.cert.verdict h.report refl h.reports (sym h.status ∙ (n.is ∙ z)) }
 
   pub says_ray : end ≡ 2 → SaysRay words x y
   says_ray z =
-      let d = done_now words x y end n (inl (omega (arith, z))) in
+      let d = done_now words x y end n (not_by_status words x y end n (omega (arith, z), omega (arith, z))) (inl (omega (arith, z))) in
       let h = other_found d.model d.annot n.request d.rest n.outcome d.does (omega (arith, z, n.is)) (omega (arith, z, n.is)) in
       let p = ray_at d.model d.annot h.stated h.is h.found n.request.work h.gives h.found.cert.verdict h.report refl h.reports (sym h.status ∙ (n.is ∙ z)) in
       record {

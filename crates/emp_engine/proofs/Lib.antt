@@ -1,3 +1,4 @@
+mod Verbs
 mod Ending
 mod Statuses
 mod Saying
@@ -5,4 +6,8 @@ mod Answered
 mod Headline
 mod Clauses
 mod Whole
+mod Selling
+mod Refused
+mod Deciding
+mod Owned
 mod Ended

@@ -1,14 +1,14 @@
 -- The statuses of answers over texts, and the files that they store.
-use Rattle.std.proofs.Common.{◌≡◌, ◌≢◌, ℕ, ◌⊎◌, inl, inr, Bool, true, false, ◌||◌, List, [], ◌∷◌, Option, Some, None, refl, sym, ap, subst, ◌∙◌, bytes_eq}
+use Rattle.std.proofs.Common.{◌≡◌, ◌≢◌, ℕ, ◌⊎◌, inl, inr, Bool, true, false, ◌||◌, List, [], ◌∷◌, ◌++◌, codes, Option, Some, None, refl, sym, ap, subst, ◌∙◌, bytes_eq}
 use Rattle.std.specs.List.{list_any}
 use Rattle.std.proofs.lemmas.Bool.{false≢true}
 use Rattle.std.proofs.lemmas.Slice.Eq.{bytes_eq-Decides}
 use Rattle.emp_ast.specs.declared.model.Model.{Model}
 use Rattle.emp_ast.specs.declared.annot.Annot.{Annot}
 use Rattle.emp_command.specs.declared.words.Verb.{Verb}
-use Rattle.emp_command.specs.declared.words.Verb.TheVariants.{Solve, Migrate}
+use Rattle.emp_command.specs.declared.words.Verb.TheVariants.{Solve, Make, Migrate}
 use Rattle.emp_command.specs.Words.{Asked}
-use Rattle.emp_command.specs.Course.{Outcome}
+use Rattle.emp_command.specs.Course.{Outcome, IsInRange}
 use Rattle.emp_poly.specs.declared.tree.PolyFault.{PolyFault}
 use Rattle.emp_poly.specs.declared.tree.PolyFault.TheVariants as PolyWords
 use Rattle.emp_lines.specs.ClassLines.{poly_status}
@@ -23,7 +23,10 @@ use Rattle.emp_solution.specs.declared.state.Stated.{Stated}
 use Rattle.emp_solution.specs.declared.state.StateFault.{StateFault}
 use Rattle.emp_solution.specs.declared.state.StateFault.TheVariants as StateWords
 use Rattle.emp_answers.specs.Answers.{state_status, IsNamedFault, Refuses, bad_owner, unstated, walk_status, ReportOf, cert_stores, Solves, refused, unfinished, unfilled, too_long, answered, Unaccepted, no_rows, bad_text, rejected, wide_sum, Checks, unaccepted, accepted, Migrates, unmigrated, migrated_long, migrated, Does, prints, solves, checks, migrates, Answers, unbuilt, bad_model, bad_info, done}
-use Rattle.emp_engine.specs.Run.{IsStatus, is_caused, written_by, written}
+use Rattle.emp_makes.specs.Makes.{Saves, SumsUp}
+use Rattle.emp_makes.specs.Makes as Made
+use Rattle.emp_makes.proofs.Ends.{makes_end}
+use Rattle.emp_engine.specs.Run.{IsStatus, IsAnswer, over_texts, market, is_caused, written_by, written}
 
 -- ---- statuses
 pub record IsLate (s : ℕ) : Type 0 where
@@ -97,11 +100,20 @@ does_late m a r rest o (solves p v h) = solves_late m a r p h
 does_late m a r rest o (checks ct p v h) = checks_late m a ct p h
 does_late m a r rest o (migrates ct name p v n h) = migrates_late m a ct name p h
 
-pub answers_late : (r : Asked) (ts : List (List ℕ)) (o : Outcome) → Answers r ts o → IsLate o.status
+answers_late : (r : Asked) (ts : List (List ℕ)) (o : Outcome) → Answers r ts o → IsLate o.status
 answers_late r ts o (unbuilt us h) = record { status = refl; cause = inl refl }
 answers_late r ts o (bad_model mt it rest f b n h) = record { status = refl; cause = inl refl }
 answers_late r ts o (bad_info mt it rest m f b t n h) = record { status = refl; cause = inl refl }
 answers_late r ts o (done mt it rest m a p b t i h) = does_late m a r rest p h
+
+three_late : (s : ℕ) → (s ≡ 0) ⊎ ((s ≡ 19) ⊎ (s ≡ 20)) → IsLate s
+three_late s (inl e) = late_of 0 s e (record { status = refl; cause = inl refl })
+three_late s (inr (inl e)) = late_of 19 s e (record { status = refl; cause = inl refl })
+three_late s (inr (inr e)) = late_of 20 s e (record { status = refl; cause = inl refl })
+
+pub answer_late : (r : Asked) (ts : List (List ℕ)) (o : Outcome) → IsInRange r → IsAnswer r ts o → IsLate o.status
+answer_late r ts o i (over_texts us p h) = answers_late r us p h
+answer_late r ts o i (market p v h) = three_late p.status (makes_end r p (i.1 v) h)
 
 -- a status that is caused by texts is no other
 pub not_caused : (s k : ℕ) → (is_caused s ≡ true) ⊎ (s ≡ 24) → is_caused k ≡ false → (k ≡ 24 → ⊥) → s ≢ k
@@ -164,8 +176,37 @@ does_named m a r rest o (solves p v h) = solves_named m a r p v h
 does_named m a r rest o (checks ct p v h) = checks_named m a ct p (written r) h
 does_named m a r rest o (migrates ct name p v n h) = migrates_named m a r ct name p v n h
 
-pub answers_named : (r : Asked) (ts : List (List ℕ)) (o : Outcome) → Answers r ts o → AreNamed (written r) o.stores
+answers_named : (r : Asked) (ts : List (List ℕ)) (o : Outcome) → Answers r ts o → AreNamed (written r) o.stores
 answers_named r ts o (unbuilt us h) = tt
 answers_named r ts o (bad_model mt it rest f b n h) = tt
 answers_named r ts o (bad_info mt it rest m f b t n h) = tt
 answers_named r ts o (done mt it rest m a p b t i h) = does_named m a r rest p h
+
+-- ---- the files of a market
+two_named : (f g : List ℕ) → (named_by (f ∷ g ∷ []) f ≡ true) × (named_by (f ∷ g ∷ []) g ≡ true)
+two_named f g = (first (bytes_eq f f) (bytes_eq g f || false) (same_bytes f), second (bytes_eq f g) (bytes_eq g g) (same_bytes g))
+  where
+    first : (b d : Bool) → b ≡ true → (b || d) ≡ true
+    first b d e = cc
+
+    second : (b d : Bool) → d ≡ true → (b || (d || false)) ≡ true
+    second true d e = refl
+    second false d e = cc
+
+saves_named : (m : Model) (a : Annot) (o : Option (List ℕ)) (ss : List (List ℕ × List ℕ)) → Saves m a o ss → AreNamed (written_by Make o) ss
+saves_named m a None ss e = subst (AreNamed []) (sym e) tt
+saves_named m a (Some name) ss h =
+    let n = two_named (name ++ codes ".gms") (name ++ codes ".info") in
+    subst (AreNamed (written_by Make (Some name))) (sym h.2) (n.0, n.1, tt)
+
+sums_named : (m : Model) (a : Annot) (r : Asked) (o : Outcome) → r.verb ≡ Make → SumsUp m a r o → AreNamed (written r) o.stores
+sums_named m a r o v (Made.refused p h) = refuses_named m a p (written r) h
+sums_named m a r o v (Made.unfinished s f n i g) = tt
+sums_named m a r o v (Made.unfilled s f w i g u) = tt
+sums_named m a r o v (Made.wide_output vs w h q) = tt
+sums_named m a r o v (Made.wide_profit vs output w h q k) = tt
+sums_named m a r o v (Made.made vs output profit ss h q k st) = by_verb r.verb Make r.output r.output ss v refl (saves_named m a r.output ss st)
+
+pub answer_named : (r : Asked) (ts : List (List ℕ)) (o : Outcome) → IsAnswer r ts o → AreNamed (written r) o.stores
+answer_named r ts o (over_texts us p h) = answers_named r us p h
+answer_named r ts o (market p v h) = sums_named h.model h.annot r p v h.sums

@@ -19,7 +19,7 @@ use Rattle.info_read.specs.Texts.{IsInfoText, HasInfoFault, RefusesInfo}
 use Rattle.info_read.specs.Laws.{AreDistinct, HasDistinctNames}
 use Rattle.info_read.proofs.OneText.{one_annotation}
 use Rattle.emp_answers.specs.Answers.{Does, Answers, unbuilt, bad_model, bad_info, done}
-use Rattle.emp_engine.specs.Run.{IsAnswered, IsDone, NamesTexts}
+use Rattle.emp_engine.specs.Run.{IsAnswer, over_texts, market, IsAnswered, IsDone, NamesTexts}
 
 -- ---- names of a model that a text stands for
 front_at : (xs ys : List (List ℕ)) (i : ℕ) → i < length xs → slice_index_or (xs ++ ys) i [] ≡ slice_index_or xs i []
@@ -108,6 +108,14 @@ module _ (x : Contents) (r : Asked) (m : Model) (a : Annot) (t : NamesTexts r x 
       absurd (no_info_fault it k f g.info_is (one_model_is mt k g.model_is km) n h)
   answers_does ts o e (done mt it rest k b p w km ki h) = does_whole p mt it rest k b (first mt it rest e) km ki h
 
+  some_files : (h : List ℕ) (hs : List (List ℕ)) (fs : List (List ℕ)) → fs ≡ h ∷ hs → [] ≡ map x.holds fs → ⊥
+  some_files h hs [] e g = cc
+  some_files h hs (f ∷ fs) e g = cc
+
+  answer_does : (ts : List (List ℕ)) (o : Outcome) → ts ≡ map x.holds r.files → IsAnswer r ts o → Does m a r (map x.holds t.others) o
+  answer_does ts o e (over_texts us p h) = answers_does us p e h
+  answer_does ts o e (market p v h) = absurd (some_files t.model_file (t.info_file ∷ t.others) r.files t.files e)
+
 pub is_done : (words : List (List ℕ)) (x y : Contents) (end : ℕ) (m : Model) (a : Annot) → ((r : Asked) → Asks words r → NamesTexts r x m a) → IsAnswered words x y end → IsDone words m a x y end
 is_done words x y end m a all n =
     let t = all n.request n.asked in
@@ -119,7 +127,7 @@ is_done words x y end m a all n =
       others = t.others;
       files = t.files;
       outcome = n.outcome;
-      does = answers_does x n.request m a t (map x.holds n.request.files) n.outcome refl n.answers;
+      does = answer_does x n.request m a t (map x.holds n.request.files) n.outcome refl n.answers;
       is = n.is;
       between = n.between;
       stored = n.stored;

@@ -1,5 +1,5 @@
 -- How a call ends, for the proofs of `run`.
-use Rattle.std.specs.Prelude.{◌≡◌, ◌⊎◌, ℕ, List, Option}
+use Rattle.std.specs.Prelude.{◌≡◌, ◌⊎◌, ℕ, true, List, Option}
 use Rattle.emp_desk.specs.Desk.{Place, output, Contents, Told, Rose}
 use Rattle.emp_command.specs.declared.words.Verb.TheVariants.{Make}
 use Rattle.emp_command.specs.declared.refusal.Refusal.{Refusal}
@@ -7,8 +7,7 @@ use Rattle.emp_command.specs.declared.refusal.Refusal.TheVariants.{BadWords, Bad
 use Rattle.emp_command.specs.Words.{Asked, Asks}
 use Rattle.emp_command.specs.Course.{Outcome, Runs, IsWorkInRange, AreFirmsInRange}
 use Rattle.emp_command.specs.Deliveries.{SomeStoreRose}
-use Rattle.emp_answers.specs.Answers.{Answers}
-use Rattle.emp_engine.specs.Run.{SomeLoadRose, SomeWriteRose, IsStatus}
+use Rattle.emp_engine.specs.Run.{IsMake, is_market_status, IsAnswer, SomeLoadRose, SomeWriteRose, IsStatus}
 
 abbrev pub IsOutOfRange : Asked → Refusal → Type 0
 IsOutOfRange r BadWords = ⊥
@@ -28,7 +27,8 @@ abbrev pub IsRequest : Asked → Type 0
 IsRequest r = (words : List (List ℕ)) × Asks words r
 
 pub record Ends (words : List (List ℕ)) (f0 f1 : Place → ℕ) (t0 t1 : Option Contents) (end : ℕ) : Type 0 where
-  pub course : Told (λ before after. Runs Answers words f0 f1 before after end) t0 t1
+  pub course : Told (λ before after. Runs IsAnswer words f0 f1 before after end) t0 t1
   pub unread : end ≡ 11 → SomeLoadRose words f0 f1
   pub unwritten : end ≡ 12 → SomeWriteRose words f0 f1
   pub answers : IsStatus end
+  pub makes : IsMake words → is_market_status end ≡ true

@@ -1,5 +1,5 @@
 -- What the clauses of `run` say, by the status that it answers.
-use Rattle.std.specs.Prelude.{◌≡◌, ◌≢◌, ◌⊎◌, ℕ, Bool, true, false, nat_eq, bytes_eq, List, [], ◌∷◌, ◌++◌, map, codes, Option, Some, None}
+use Rattle.std.specs.Prelude.{◌≡◌, ◌≢◌, ◌⊎◌, ℕ, Bool, true, false, nat_eq, bytes_eq, List, [], ◌∷◌, ◌++◌, map, codes, decimal, Option, Some, None, Ok}
 use Rattle.std.specs.List.{list_any}
 use Rattle.emp_num.specs.declared.frac.Frac.{Frac}
 use Rattle.emp_num.specs.Point.{Point, StandsFor}
@@ -8,11 +8,11 @@ use Rattle.emp_ast.specs.declared.annot.Annot.{Annot}
 use Rattle.emp_ast.specs.Names.{variable_names}
 use Rattle.emp_ast.specs.Equilibrium.{IsEquilibrium}
 use Rattle.emp_ast.specs.Bilevel.{IsBest, IsRay}
-use Rattle.emp_desk.specs.Desk.{Place, loads, stores, output, Contents, Says, Rose}
+use Rattle.emp_desk.specs.Desk.{Place, loads, stores, output, Contents, Says, SaysPrefix, Rose}
 use Rattle.emp_command.specs.declared.words.Verb.{Verb}
 use Rattle.emp_command.specs.declared.words.Verb.TheVariants.{Solve, Check, Print, Make, Migrate, Pieces}
 use Rattle.emp_command.specs.Words.{Asked, Asks, IsPlain}
-use Rattle.emp_command.specs.Course.{Outcome, IsInRange, FilesFit, StoresAll}
+use Rattle.emp_command.specs.Course.{Outcome, IsInRange, FilesFit, StoresAll, NeedsNoMemory}
 use Rattle.gms_grammar.specs.declared.fault.ModelFault.{ModelFault}
 use Rattle.gms_grammar.specs.declared.fault.ModelFault.TheVariants as ModelWords
 use Rattle.gms_read.specs.Texts.{IsModelText, RefusesModel}
@@ -26,19 +26,25 @@ use Rattle.emp_owner.specs.declared.owned.OwnFault.TheVariants as OwnWords
 use Rattle.emp_owner.specs.Settled.{IsFirstBroken}
 use Rattle.emp_problem.specs.Class.{SolvesFile}
 use Rattle.emp_cert.specs.declared.cert.Cert.{Cert}
+use Rattle.emp_cert.specs.declared.cert.Found.{Found}
+use Rattle.emp_cert.specs.declared.cert.Verdict.{Verdict}
 use Rattle.emp_cert_text.specs.Text.{cert_text}
 use Rattle.emp_cert_text.specs.Upgrading.{IsUpgrade}
 use Rattle.emp_check.specs.declared.outcome.Checked.TheVariants.{Accepted}
 use Rattle.emp_check.specs.Checks.{checked}
+use Rattle.emp_walk.specs.Founds.{CertGives}
 use Rattle.emp_share.specs.Laws.{IsNotConvex}
 use Rattle.emp_solution.specs.declared.state.Stated.{Stated}
 use Rattle.emp_solution.specs.Stated.{IsStated}
 use Rattle.emp_solution.specs.Tells.{VerdictTells}
+use Rattle.emp_accepted.specs.Accepted.{IsAcceptedPair}
 use Rattle.emp_lines.specs.TextLines.{model_line, info_line, own_line}
 use Rattle.emp_lines.specs.ClassLines.{convex_line}
-use Rattle.emp_cert_lines.specs.CertLines.{accepted_line, migrated_line}
+use Rattle.emp_make.specs.Markets.{IsMarket}
+use Rattle.emp_makes.specs.Makes.{OutputGives, ProfitGives, summary, Makes}
+use Rattle.emp_cert_lines.specs.CertLines.{sum_line, accepted_line, migrated_line}
 use Rattle.emp_report.specs.Report.{equilibrium_report, best_report, unbounded_report}
-use Rattle.emp_answers.specs.Answers.{is_built, Does, Answers}
+use Rattle.emp_answers.specs.Answers.{is_built, Refuses, Solves, Does, Answers}
 
 -- ---- words
 -- the first word
@@ -203,13 +209,50 @@ pub record ShowsNotConvex (words : List (List ℕ)) (before after : Contents) : 
   pub not : IsNotConvex model annot block own
   pub said : Says (convex_line block own) before after
 
+-- ---- generated markets
+abbrev pub IsMake : List (List ℕ) → Type 0
+IsMake words = HasVerb (codes "make") words
+
+-- the canonical texts are in the files of this name, where there is one
+abbrev pub HoldsMarket : Model → Annot → Option (List ℕ) → Contents → Type 0
+HoldsMarket m a None after = Unit {0}
+HoldsMarket m a (Some name) after = (text : List ℕ) × IsCanonical m text × (after.holds (name ++ codes ".gms") ≡ text) × (after.holds (name ++ codes ".info") ≡ info_text m a)
+
+-- the sums of an equilibrium of a market of the seed were said, and its texts are in the files that the words name
+pub record ShowsMarket (words : List (List ℕ)) (before after : Contents) : Type 0 where
+  pub request : Asked
+  pub asked : Asks words request
+  pub model : Model
+  pub annot : Annot
+  pub market : IsMarket request.seed request.firms model annot
+  pub values : List Frac
+  pub point : Point
+  pub stands : StandsFor values point
+  pub equilibrium : IsEquilibrium model annot point
+  pub output : Frac
+  pub profit : Frac
+  pub outputs : OutputGives request.firms values (Ok output)
+  pub profits : ProfitGives request.firms values (Ok profit)
+  pub said : Grows (summary request.firms output profit) before after
+  pub saved : HoldsMarket model annot request.output after
+
+-- a market has an equilibrium, so that `make` answers neither that there is none nor a ray
+abbrev pub is_market_status : ℕ → Bool
+is_market_status s = list_any (λ k. nat_eq k s) (0 ∷ 10 ∷ 12 ∷ 19 ∷ 20 ∷ 21 ∷ 24 ∷ [])
+
 -- ---- causes
--- what was answered over the texts of the files, by its cause: it was stored and said whole
+-- what is answered: over the texts of the files, or, by `make`, over none
+pub data IsAnswer (r : Asked) : List (List ℕ) → Outcome → Type 0 where
+  over_texts : (texts : List (List ℕ)) (o : Outcome) → Answers r texts o → IsAnswer r texts o
+  market : (o : Outcome) → r.verb ≡ Make → Makes r o → IsAnswer r [] o
+
+-- what was answered, by its cause: it was stored and said whole
 pub record IsAnswered (words : List (List ℕ)) (before after : Contents) (status : ℕ) : Type 0 where
   pub request : Asked
   pub asked : Asks words request
+  pub range : IsInRange request
   pub outcome : Outcome
-  pub answers : Answers request (map before.holds request.files) outcome
+  pub answers : IsAnswer request (map before.holds request.files) outcome
   pub is : outcome.status ≡ status
   pub between : Contents
   pub stored : StoresAll outcome.stores before between
@@ -230,6 +273,10 @@ IsReachable words before = (r : Asked) → Asks words r → IsInRange r × Files
 
 abbrev pub IsComplete : List (List ℕ) → ℕ → Contents → Contents → Type 0
 IsComplete words status before after = IsPlain words → IsReachable words before → (status ≡ 21) ⊎ IsAnswered words before after status
+
+-- words of `make` are answered so: a market is summed up, or a number is wide, or the work is spent
+abbrev pub MakesWhole : List (List ℕ) → ℕ → Contents → Contents → Type 0
+MakesWhole words status before after = IsMake words → IsPlain words → IsReachable words before → (status ≡ 21) ⊎ ((status ≡ 0) ⊎ ((status ≡ 19) ⊎ (status ≡ 20)))
 
 -- where moreover the first two texts stand for a model and an annotation of it, that is what the verb does over these
 pub record IsDone (words : List (List ℕ)) (m : Model) (a : Annot) (before after : Contents) (status : ℕ) : Type 0 where
@@ -258,8 +305,52 @@ pub record NamesTexts (r : Asked) (before : Contents) (m : Model) (a : Annot) : 
 abbrev pub DoesWhole : List (List ℕ) → ℕ → Contents → Contents → Type 0
 DoesWhole words status before after = (m : Model) (a : Annot) → IsPlain words → IsReachable words before → ((r : Asked) → Asks words r → NamesTexts r before m a) → (status ≡ 21) ⊎ IsDone words m a before after status
 
+-- ---- accepted pairs
+-- a point, none, a ray, a wide number, spent work, or a certificate that is too long to be stored
+abbrev pub is_decision : ℕ → Bool
+is_decision s = list_any (λ k. nat_eq k s) (0 ∷ 1 ∷ 2 ∷ 19 ∷ 20 ∷ 24 ∷ [])
+
+-- what `solve` answers over an accepted pair; before the search there is no refusal but that a number is wide
+pub record IsDecided (words : List (List ℕ)) (m : Model) (a : Annot) (before after : Contents) (status : ℕ) : Type 0 where
+  pub request : Asked
+  pub asked : Asks words request
+  pub outcome : Outcome
+  pub solves : Solves m a request outcome
+  pub refused : Refuses m a outcome → status ≡ 19
+  pub is : outcome.status ≡ status
+  pub decision : is_decision status ≡ true
+  pub between : Contents
+  pub stored : StoresAll outcome.stores before between
+  pub said : Says outcome.says between after
+
+-- where the texts are an accepted pair, plain words of `solve` are answered so, unless memory was wanted
+abbrev pub DecidesWhole : List (List ℕ) → ℕ → Contents → Contents → Type 0
+DecidesWhole words status before after = IsSolve words → (m : Model) (a : Annot) → IsAcceptedPair m a → IsPlain words → IsReachable words before → ((r : Asked) → Asks words r → NamesTexts r before m a) → (status ≡ 21) ⊎ IsDecided words m a before after status
+
+-- ---- certificates of the program's own
+-- the third file holds the text of the certificate that `solve` finds of what the two texts stand for, with some work
+pub record HoldsOwn (words : List (List ℕ)) (before : Contents) : Type 0 where
+  pub model : Model
+  pub annot : Annot
+  pub texts : TextsSay words before model annot
+  pub cert_file : List ℕ
+  pub third : texts.others ≡ cert_file ∷ []
+  pub stated : Stated
+  pub rows : IsStated model annot stated
+  pub work : ℕ
+  pub found : Found
+  pub search : CertGives stated.system work (Ok found)
+  pub text : before.holds cert_file ≡ cert_text found.cert
+
+-- `check` accepts it, or a sum in its test is wide
+abbrev pub Passes : Verdict → ℕ → Contents → Contents → Type 0
+Passes verdict status before after = ((status ≡ 0) × Says (accepted_line verdict) before after) ⊎ ((node : ℕ) × (status ≡ 19) × Says (sum_line node) before after)
+
+abbrev pub OwnWhole : List (List ℕ) → ℕ → Contents → Contents → Type 0
+OwnWhole words status before after = IsCheck words → (own : HoldsOwn words before) → IsPlain words → IsReachable words before → (status ≡ 21) ⊎ Passes own.found.cert.verdict status before after
+
 -- ---- files
--- the name of a file that the words name to be written
+-- the names of the files that the words name to be written
 abbrev pub written_by : Verb → Option (List ℕ) → List (List ℕ)
 written_by Solve None = []
 written_by Solve (Some f) = f ∷ []
@@ -267,7 +358,8 @@ written_by Migrate None = []
 written_by Migrate (Some f) = f ∷ []
 written_by Check o = []
 written_by Print o = []
-written_by Make o = []
+written_by Make None = []
+written_by Make (Some f) = (f ++ codes ".gms") ∷ (f ++ codes ".info") ∷ []
 written_by Pieces o = []
 
 abbrev pub written : Asked → List (List ℕ)
@@ -276,6 +368,22 @@ written r = written_by r.verb r.output
 -- each file that the words do not name to be written is as it was
 abbrev pub KeepsOthers : List (List ℕ) → Contents → Contents → Type 0
 KeepsOthers words before after = (name : List ℕ) → ((r : Asked) → Asks words r → list_any (λ f. bytes_eq f name) (written r) ≡ false) → after.holds name ≡ before.holds name
+
+-- ---- refusals
+-- all statuses of a refusal but 12 and 21, which may come when something was stored or said
+abbrev pub is_refusal : ℕ → Bool
+is_refusal s = list_any (λ k. nat_eq k s) (10 ∷ 11 ∷ 13 ∷ 14 ∷ 15 ∷ 16 ∷ 17 ∷ 18 ∷ 19 ∷ 20 ∷ 22 ∷ 23 ∷ 24 ∷ 30 ∷ [])
+
+-- the line names the status
+abbrev pub IsFaultLine : ℕ → List ℕ → Type 0
+IsFaultLine status line = (rest : List ℕ) × (line ≡ codes "error " ++ decimal status ++ codes ": " ++ rest)
+
+-- only the line of the refusal was said, and no file changed; where no memory is asked for, a desk that finds none says a prefix of it
+pub record SaysRefusal (status : ℕ) (words : List (List ℕ)) (before after : Contents) : Type 0 where
+  pub line : List ℕ
+  pub fault : IsFaultLine status line
+  pub said : SaysPrefix line before after
+  pub whole : (NeedsNoMemory words → ⊥) → Says line before after
 
 -- ---- counts
 -- the count of the loads of a file that the words name rose

@@ -1,13 +1,13 @@
 //! The top call.
 ghost use Rattle.std.specs.Prelude.{◌≡◌, ◌≢◌, ◌⊎◌, ℕ, List, map, string_bytes, true, MatchOption};
+ghost use Rattle.emp_command.specs.declared.words.Verb.TheVariants.{Make};
 ghost use Rattle.emp_desk.specs.Desk.{Told, Rose, NoneFalls, output};
 ghost use Rattle.emp_command.specs.Words.{IsPlain, Asks};
 ghost use Rattle.emp_command.specs.Course.{Runs, Delivers, IsInRange, refusal as refused};
 ghost use Rattle.emp_command.specs.Refusals.{line_of, status_of};
 ghost use Rattle.emp_command.specs.Requests.{asked_of};
-ghost use Rattle.emp_answers.specs.Answers.{Answers};
 ghost use Rattle.emp_answers.specs.Outcomes.{outcome_of};
-ghost use Rattle.emp_engine.specs.Run.{IsSolve, IsPrint, IsCheck, IsMigrate, SaysPoint, ShowsNone, SaysRay, ShowsAccepted, ShowsMigrated, SaysCanonical, ShowsModelFault, ShowsInfoFault, ShowsOwnFault, ShowsNotConvex, ShowsCause, is_caused, IsComplete, DoesWhole, KeepsOthers, SomeLoadRose, SomeWriteRose, NothingRose, IsStatus};
+ghost use Rattle.emp_engine.specs.Run.{IsAnswer, IsSolve, IsPrint, IsCheck, IsMigrate, IsMake, SaysPoint, ShowsNone, SaysRay, ShowsAccepted, ShowsMigrated, SaysCanonical, ShowsModelFault, ShowsInfoFault, ShowsOwnFault, ShowsNotConvex, ShowsMarket, is_market_status, ShowsCause, is_caused, IsComplete, MakesWhole, DoesWhole, DecidesWhole, OwnWhole, is_refusal, SaysRefusal, KeepsOthers, SomeLoadRose, SomeWriteRose, NothingRose, IsStatus};
 ghost use Rattle.emp_engine.specs.Ends.{Ends, SayCause, IsOutOfRange, IsRequest};
 
 use emp_answers::answer::answer_texts;
@@ -18,6 +18,7 @@ use emp_command::refusal::Refusal;
 use emp_command::words::{Request, Verb, asked};
 use emp_desk::desk::Desk;
 use emp_list::memory::NoMemory;
+use emp_makes::answer::answer_market;
 use std::alloc::Global;
 
 /// Why a number of the request is out of its range, where one is.
@@ -63,7 +64,8 @@ fn say_refusal<D: Desk>(refusal: Refusal, desk: &mut D) -> u8
 }
 
 /// Loads the files of the request, answers over their texts, and says the answer.
-fn carry_out<D: Desk>(alloc: Global, request: &Request, desk: &mut D) -> u8
+fn over_files<D: Desk>(alloc: Global, request: &Request, desk: &mut D) -> u8
+    requires verb { request.now.verb ≢ Make }
     requires range { IsInRange (asked_of request.now) }
     requires plain { IsRequest (asked_of request.now) }
     ensures { (words : List (List ℕ)) → Asks words (asked_of request.now) → Ends words (D.faults desk.old) (D.faults desk.new) (D.tells desk.old) (D.tells desk.new) result }
@@ -74,6 +76,32 @@ fn carry_out<D: Desk>(alloc: Global, request: &Request, desk: &mut D) -> u8
             Err(NoMemory) => say_refusal(Refusal::NoMemory, desk),
         },
         Err(refusal) => say_refusal(refusal, desk),
+    }
+}
+
+/// Answers with a market, and says the answer.
+fn over_market<D: Desk>(alloc: Global, request: &Request, desk: &mut D) -> u8
+    requires verb { request.now.verb ≡ Make }
+    requires range { IsInRange (asked_of request.now) }
+    ensures { (words : List (List ℕ)) → Asks words (asked_of request.now) → Ends words (D.faults desk.old) (D.faults desk.new) (D.tells desk.old) (D.tells desk.new) result }
+{
+    match answer_market(alloc, request) {
+        Ok(answer) => say(&answer, desk),
+        Err(NoMemory) => say_refusal(Refusal::NoMemory, desk),
+    }
+}
+
+/// Does what a request with numbers in their ranges asks.
+fn carry_out<D: Desk>(alloc: Global, request: &Request, desk: &mut D) -> u8
+    requires range { IsInRange (asked_of request.now) }
+    requires plain { IsRequest (asked_of request.now) }
+    ensures { (words : List (List ℕ)) → Asks words (asked_of request.now) → Ends words (D.faults desk.old) (D.faults desk.new) (D.tells desk.old) (D.tells desk.new) result }
+{
+    match request.verb {
+        Verb::Make => over_market(alloc, request, desk),
+        Verb::Solve | Verb::Check | Verb::Print | Verb::Migrate | Verb::Pieces => {
+            over_files(alloc, request, desk)
+        }
     }
 }
 
@@ -102,12 +130,13 @@ fn obey<D: Desk>(alloc: Global, words: &[String], desk: &mut D) -> u8
 /// Does what the words ask, over a desk, and answers the exit status.
 ///
 /// `solve MODEL INFO` decides what the two files state, stores a certificate where `--cert` names a file, and says the report;
-/// `check MODEL INFO CERT` tests a certificate, `migrate MODEL INFO CERT OUT` stores it in version 2, and `print MODEL INFO` says the
-/// canonical texts. The statuses and the lines that go with them stand in `docs/FORMATS.md`; the words of the clauses in
+/// `check MODEL INFO CERT` tests a certificate, `migrate MODEL INFO CERT OUT` stores it in version 2, `print MODEL INFO` says the
+/// canonical texts, and `make SEED FIRMS` solves a generated market, stores its texts where `--save` names files, and sums it up. The
+/// statuses and the lines that go with them stand in `docs/FORMATS.md`; the words of the clauses in
 /// `specs/Run.antt` and `docs/DEFINITIONS.md`. After a refusal only its line was said, or a prefix of it where the say failed, and no file
 /// has changed, but that a store that failed leaves a prefix in its file.
 pub fn run<D: Desk>(alloc: Global, words: &[String], desk: &mut D) -> u8
-    ensures course { Told (λ before after. Runs Answers (map string_bytes words.now) (D.faults desk.old) (D.faults desk.new) before after result) (D.tells desk.old) (D.tells desk.new) }
+    ensures course { Told (λ before after. Runs IsAnswer (map string_bytes words.now) (D.faults desk.old) (D.faults desk.new) before after result) (D.tells desk.old) (D.tells desk.new) }
     ensures solved { IsSolve (map string_bytes words.now) → result ≡ 0 → Told (SaysPoint (map string_bytes words.now)) (D.tells desk.old) (D.tells desk.new) }
     ensures none { result ≡ 1 → Told (ShowsNone (map string_bytes words.now)) (D.tells desk.old) (D.tells desk.new) }
     ensures ray { result ≡ 2 → Told (SaysRay (map string_bytes words.now)) (D.tells desk.old) (D.tells desk.new) }
@@ -118,14 +147,20 @@ pub fn run<D: Desk>(alloc: Global, words: &[String], desk: &mut D) -> u8
     ensures info_fault { result ≡ 15 → Told (ShowsInfoFault (map string_bytes words.now)) (D.tells desk.old) (D.tells desk.new) }
     ensures own_fault { result ≡ 16 → Told (ShowsOwnFault (map string_bytes words.now)) (D.tells desk.old) (D.tells desk.new) }
     ensures convex { result ≡ 18 → Told (ShowsNotConvex (map string_bytes words.now)) (D.tells desk.old) (D.tells desk.new) }
+    ensures market { IsMake (map string_bytes words.now) → result ≡ 0 → Told (ShowsMarket (map string_bytes words.now)) (D.tells desk.old) (D.tells desk.new) }
+    ensures market_ends { IsMake (map string_bytes words.now) → is_market_status result ≡ true }
     ensures cause { is_caused result ≡ true → Told (ShowsCause result (map string_bytes words.now)) (D.tells desk.old) (D.tells desk.new) }
+    ensures refused { is_refusal result ≡ true → Told (SaysRefusal result (map string_bytes words.now)) (D.tells desk.old) (D.tells desk.new) }
     ensures unread { result ≡ 11 → SomeLoadRose (map string_bytes words.now) (D.faults desk.old) (D.faults desk.new) }
     ensures unwritten { result ≡ 12 → SomeWriteRose (map string_bytes words.now) (D.faults desk.old) (D.faults desk.new) }
     ensures words { (IsPlain (map string_bytes words.now) → ⊥) → (result ≡ 10) ⊎ (result ≡ 12) }
     ensures files { Told (KeepsOthers (map string_bytes words.now)) (D.tells desk.old) (D.tells desk.new) }
     ensures answers { IsStatus result }
     ensures whole { NothingRose (map string_bytes words.now) (D.faults desk.old) (D.faults desk.new) → Told (IsComplete (map string_bytes words.now) result) (D.tells desk.old) (D.tells desk.new) }
+    ensures made { NothingRose (map string_bytes words.now) (D.faults desk.old) (D.faults desk.new) → Told (MakesWhole (map string_bytes words.now) result) (D.tells desk.old) (D.tells desk.new) }
     ensures done { NothingRose (map string_bytes words.now) (D.faults desk.old) (D.faults desk.new) → Told (DoesWhole (map string_bytes words.now) result) (D.tells desk.old) (D.tells desk.new) }
+    ensures decided { NothingRose (map string_bytes words.now) (D.faults desk.old) (D.faults desk.new) → Told (DecidesWhole (map string_bytes words.now) result) (D.tells desk.old) (D.tells desk.new) }
+    ensures own { NothingRose (map string_bytes words.now) (D.faults desk.old) (D.faults desk.new) → Told (OwnWhole (map string_bytes words.now) result) (D.tells desk.old) (D.tells desk.new) }
     ensures complete { NothingRose (map string_bytes words.now) (D.faults desk.old) (D.faults desk.new) → (result ≢ 11) × (result ≢ 12) }
 {
     obey(alloc, words, desk)
