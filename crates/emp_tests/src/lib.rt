@@ -1,10 +1,8 @@
-//! Tables of tests for the layers below, one module a layer. They call public functions alone.
+//! Tables of tests for the layers below the call, one module a layer. They call public functions alone.
 #![tactic(auto)]
 
 #[cfg(test)]
 mod annotation_texts;
-#[cfg(test)]
-mod certificates;
 #[cfg(test)]
 mod convexity;
 #[cfg(test)]
@@ -22,11 +20,7 @@ mod printed_annotations;
 #[cfg(test)]
 mod printed_texts;
 #[cfg(test)]
-mod runs;
-#[cfg(test)]
 mod small_pairs;
-#[cfg(test)]
-mod solved_files;
 #[cfg(test)]
 mod tokens;
 #[cfg(test)]
