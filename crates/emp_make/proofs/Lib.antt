@@ -1,3 +1,4 @@
 pub mod Wholes
 pub mod Lists
 pub mod Made
+pub mod Ones

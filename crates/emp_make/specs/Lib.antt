@@ -1,4 +1,6 @@
 pub mod Markets
 pub mod Making
+-- Laws
+pub mod Laws
 -- What only helps proofs
 pub mod Parts

@@ -7,5 +7,6 @@
 pub mod annot;
 pub mod draws;
 pub mod fault;
+pub mod laws;
 pub mod market;
 pub mod model;

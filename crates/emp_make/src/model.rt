@@ -195,10 +195,12 @@ fn quantity_variable(alloc: Global, seed: u64, firm: u32) -> Result<Variable, No
     ensures { IfOk result (λ v. v ≡ quantity_variable seed firm) }
 {
     let name = numbered(alloc, b"q", firm)?;
+    let low = whole(0);
+    let high = whole(cap(seed, firm));
     Ok(Variable {
         name,
-        low: End::At(whole(0)),
-        high: End::At(whole(cap(seed, firm))),
+        low: End::At(low),
+        high: End::At(high),
     })
 }
 
