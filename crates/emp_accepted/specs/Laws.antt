@@ -1,5 +1,5 @@
 -- The laws of accepted pairs, as statements.
-use Rattle.std.specs.Prelude.{◌≡◌, ◌≢◌, Err}
+use Rattle.std.specs.Prelude.{◌≢◌, Err}
 use Rattle.emp_ast.specs.declared.model.Model.{Model}
 use Rattle.emp_ast.specs.declared.annot.Annot.{Annot}
 use Rattle.emp_owner.specs.declared.owned.OwnFault.{OwnFault}

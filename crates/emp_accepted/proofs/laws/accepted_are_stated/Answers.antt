@@ -1,0 +1,5 @@
+use Rattle.emp_accepted.proofs.Faults as Faults
+use Rattle.emp_accepted.proofs.laws.accepted_are_stated.Goals as goal
+
+pub returns : goal.returns
+returns c = Faults.accepted_are_stated
