@@ -1,0 +1,5 @@
+use Rattle.emp_market.proofs.AcceptMarkets as Markets
+use Rattle.emp_market.proofs.accepting.markets_are_accepted.Goals as goal
+
+pub returns : goal.returns
+returns c = Markets.markets_are_accepted
