@@ -17,7 +17,7 @@ use Rattle.emp_solution.specs.declared.state.StateFault.{StateFault}
 use Rattle.emp_solution.specs.declared.state.StateFault.TheVariants as StateWords
 use Rattle.emp_accepted.specs.Accepted.{IsAcceptedPair}
 use Rattle.emp_accepted.specs.Laws.{IsWideFault}
-use Rattle.emp_accepted.proofs.Laws.{accepted_are_stated, accepted_break_none}
+use Rattle.emp_accepted.proofs.Faults.{accepted_are_stated, accepted_break_none}
 use Rattle.emp_answers.specs.Answers.{state_status, IsNamedFault, Refuses, bad_owner, unstated, walk_status, ReportOf, Solves, refused, unfinished, unfilled, too_long, answered, Does, prints, solves, checks, migrates}
 use Rattle.emp_engine.specs.Run.{IsSolve, IsDone, is_decision, IsDecided, NamesTexts}
 use Rattle.emp_engine.proofs.Verbs.{solve_verb}
