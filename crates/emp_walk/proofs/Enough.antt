@@ -1,11 +1,10 @@
 -- With enough units no search is out of them.
-use Rattle.std.proofs.Common.{◌≡◌, ℕ, Result, Ok, Err, IfErr, subst}
+use Rattle.std.proofs.Common.{ℕ, Result, Ok, Err, IfErr, subst}
 use Rattle.emp_rows.specs.declared.system.RowSystem.{RowSystem}
 use Rattle.emp_cert.specs.declared.cert.Found.{Found}
 use Rattle.emp_search.specs.Search.{search_of}
 use Rattle.emp_ends.proofs.Counting.{searches_end}
 use Rattle.emp_walk.specs.declared.fault.WalkFault.{WalkFault}
-use Rattle.emp_walk.specs.declared.fault.WalkFault.TheVariants.{Spent}
 use Rattle.emp_walk.specs.Courses.{FaultGives}
 use Rattle.emp_walk.specs.Founds.{CertGives}
 use Rattle.emp_walk.specs.Searches.{HasUnits, IsNotSpent}
