@@ -6,7 +6,7 @@ use std::alloc::Global;
 use std::process::Abort;
 use std::test::Fail;
 
-const FIRMS: &str = "Variables pi1, pi2, q1, q2;
+pub const FIRMS: &str = "Variables pi1, pi2, q1, q2;
 Positive Variables q1, q2;
 Equations d1, d2;
 d1.. pi1 =e= (10 - q1 - q2)*q1 - 2*q1;
@@ -15,7 +15,7 @@ Model m / all /;
 Solve m using EMP;
 ";
 
-const APART: &str = "Variables a, b, x, y;
+pub const APART: &str = "Variables a, b, x, y;
 Equations da, db;
 da.. a =e= sqr(x - y);
 db.. b =e= sqr(y - x - 1);
@@ -23,13 +23,13 @@ Model m / all /;
 Solve m using EMP;
 ";
 
-const TWO: &str = "equilibrium min a x da min b y db";
+pub const TWO: &str = "equilibrium min a x da min b y db";
 
-const REPORT: &str = "no equilibrium\nwork 2\nnodes 1\nrow 1 1\n";
+pub const REPORT: &str = "no equilibrium\nwork 2\nnodes 1\nrow 1 1\n";
 
-const NONE: &str = "emp certificate 2\nrows 2 2 0\nnone\nfarkas 1:1 2:1\nend\n";
+pub const NONE: &str = "emp certificate 2\nrows 2 2 0\nnone\nfarkas 1:1 2:1\nend\n";
 
-const SPLIT: &str = "Positive Variables x, y;
+pub const SPLIT: &str = "Positive Variables x, y;
 Equations f, g;
 f.. y - 1 =g= 0;
 g.. x + 1 =g= 0;
@@ -43,7 +43,7 @@ const SPLIT_NONE: &str =
 const SPLIT_NONE_WITHOUT_PAIRS: &str =
     "emp certificate 1\nrows 2 4 2\nnone\nbranch 2\nfarkas 1 0 0 -1\nfarkas 0 1 -1 0\nend\n";
 
-const KINK: &str = "Variables z, x, y;
+pub const KINK: &str = "Variables z, x, y;
 Equations dz, c1, c2;
 dz.. z =e= x - 3*y;
 c1.. y =l= x;
@@ -54,7 +54,7 @@ Model m / all /;
 Solve m using EMP minimizing z;
 ";
 
-const RAY: &str = "Variables z, w, x, y;
+pub const RAY: &str = "Variables z, w, x, y;
 Equations dz, dw;
 dz.. z =e= -x;
 dw.. w =e= sqr(y - x);
@@ -63,7 +63,7 @@ Solve m using EMP minimizing z;
 ";
 
 // A desk that keeps a model and an annotation under the names m and i, and a certificate under the name c.
-fn desk_with(alloc: Global, model: &str, info: &str, cert: &str) -> Result<MemoryDesk, Fail> {
+pub fn desk_with(alloc: Global, model: &str, info: &str, cert: &str) -> Result<MemoryDesk, Fail> {
     let mut desk = MemoryDesk::new(alloc);
     desk.put("m", model.as_bytes())?;
     desk.put("i", info.as_bytes())?;
@@ -209,69 +209,12 @@ fn certificates_that_show_nothing(rt: HostRuntime) -> Result<(), Fail> {
     )
 }
 
-// With these calls of the desk failing the words end so, and the certificate's file is this.
-fn failing_ends(
-    rt: &impl Abort,
-    alloc: Global,
-    line: &str,
-    calls: &[u64],
-    status: u8,
-    said: &str,
-    stored: &str,
-) -> Result<(), Fail> {
-    let mut desk = desk_with(
-        alloc,
-        SPLIT,
-        "equilibrium vi f x g y",
-        SPLIT_NONE_WITHOUT_PAIRS,
-    )?;
-    for call in calls {
-        desk.fail(*call)?;
-    }
-    answers(rt, alloc, line, &mut desk, status)?;
-    assert!(rt; desk.output() == said.as_bytes(), "{said}");
-    assert!(rt; holds(&desk, "t", stored.as_bytes()), "{said}");
-    Ok(())
-}
-
-// A store that fails stores the first half of its bytes, and so does a say.
 #[test]
-fn certificates_that_are_stored_in_part(rt: HostRuntime) -> Result<(), Fail> {
-    let half = SPLIT_NONE.split_at(SPLIT_NONE.len() / 2).0;
-    for (line, calls, status, said, stored) in [
-        ("migrate m i c t", [8, 9], 0, "migrated none\n", SPLIT_NONE),
-        (
-            "solve m i --cert t",
-            [3, 9],
-            12,
-            "error 12: cannot write\n",
-            half,
-        ),
-        ("solve m i --cert t", [3, 4], 12, "error 12: c", half),
-        (
-            "solve m i --cert t",
-            [4, 9],
-            12,
-            "no equilibrium\n",
-            SPLIT_NONE,
-        ),
-        (
-            "migrate m i c t",
-            [4, 9],
-            12,
-            "error 12: cannot write\n",
-            half,
-        ),
-    ] {
-        failing_ends(
-            &rt,
-            rt.alloc(),
-            line,
-            calls.as_slice(),
-            status,
-            said,
-            stored,
-        )?;
-    }
+fn what_names_no_pairs_is_stored_with_them(rt: HostRuntime) -> Result<(), Fail> {
+    let info = "equilibrium vi f x g y";
+    let mut desk = desk_with(rt.alloc(), SPLIT, info, SPLIT_NONE_WITHOUT_PAIRS)?;
+    answers(&rt, rt.alloc(), "migrate m i c t", &mut desk, 0)?;
+    assert!(rt; holds(&desk, "t", SPLIT_NONE.as_bytes()));
+    assert!(rt; desk.output() == b"migrated none\n".as_slice());
     Ok(())
 }

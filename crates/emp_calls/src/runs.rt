@@ -302,59 +302,6 @@ fn finds_points_within_bounds(rt: HostRuntime) -> Result<(), Fail> {
     Ok(())
 }
 
-// Over the system of two pairs, with these calls of the desk failing, the words end so.
-fn failing_ends(
-    rt: &impl Abort,
-    alloc: Global,
-    line: &str,
-    calls: &[u64],
-    status: u8,
-    said: &str,
-) -> Result<(), Fail> {
-    let words = words_of(alloc, line)?;
-    let mut desk = desk_of(alloc, SYSTEM.as_bytes(), PAIRS.as_bytes())?;
-    for call in calls {
-        desk.fail(*call)?;
-    }
-    let answer = run(alloc, words.as_slice(), &mut desk);
-    assert_eq!(rt; answer, status, "{said}");
-    assert!(rt; desk.output() == said.as_bytes(), "{said}");
-    assert!(rt;
-        is_kept(&desk, SYSTEM.as_bytes(), PAIRS.as_bytes()),
-        "{said}"
-    );
-    Ok(())
-}
-
-// A say that fails says the first half of its bytes.
-#[test]
-fn calls_that_fail(rt: HostRuntime) -> Result<(), Fail> {
-    for (line, calls, status, said) in [
-        ("solve m i", [1, 9], 11, "error 11: cannot read file 1\n"),
-        ("solve m i", [2, 9], 11, "error 11: cannot read file 2\n"),
-        ("print m i", [1, 9], 11, "error 11: cannot read file 1\n"),
-        ("print m i", [2, 9], 11, "error 11: cannot read file 2\n"),
-        ("check m i c", [3, 9], 11, "error 11: cannot read file 3\n"),
-        ("solve m i", [3, 9], 12, "equilibrium\nwor"),
-        (
-            "print m i",
-            [3, 9],
-            12,
-            "Variables x, y;\nEquations f, g;\nf.. 2*x + y - 5 =n= 0;\ng.. x - y - ",
-        ),
-        ("solve m i", [4, 9], 0, SOLVED),
-        ("solve m i", [1, 2], 12, "error 11: cann"),
-        ("solve m i", [2, 3], 12, "error 11: cann"),
-        ("solve m i --work 2", [3, 9], 12, "error 20: w"),
-        ("solve m i --work 0", [1, 9], 12, "error 24: work"),
-        ("solve m", [1, 9], 12, "error 10: "),
-        ("make 1 2", [1, 9], 12, "error 30:"),
-    ] {
-        failing_ends(&rt, rt.alloc(), line, calls.as_slice(), status, said)?;
-    }
-    Ok(())
-}
-
 // The text with spaces behind it, up to the size.
 fn padded(alloc: Global, text: &str, size: usize) -> Result<Vec<u8>, Fail> {
     let mut bytes = Vec::from_slice(alloc, text.as_bytes())?;
