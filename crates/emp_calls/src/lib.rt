@@ -4,6 +4,8 @@
 #[cfg(test)]
 mod certificates;
 #[cfg(test)]
+mod devices;
+#[cfg(test)]
 mod runs;
 #[cfg(test)]
 mod solved_files;

@@ -8,8 +8,6 @@ mod convexity;
 #[cfg(test)]
 mod desks;
 #[cfg(test)]
-mod devices;
-#[cfg(test)]
 mod model_texts;
 #[cfg(test)]
 mod numbers;
