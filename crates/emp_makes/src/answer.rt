@@ -41,7 +41,7 @@ fn sum_up(
     requires market { IsMarket request.now.seed request.now.firms model.now annot.now }
     ensures { IfOk result (λ a. SaysSums model.now annot.now (asked_of request.now) totals.now (outcome_of a)) }
 {
-    let files = saves(alloc, request.output, model, annot)?;
+    let files = saves(alloc, request, model, annot)?;
     let text = summary(alloc, request.firms, totals)?;
     Ok(Answer::Said(0, files, text))
 }

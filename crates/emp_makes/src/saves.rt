@@ -8,6 +8,7 @@ ghost use Rattle.emp_makes.specs.Makes.{Saves};
 use emp_ast::annot::Annot;
 use emp_ast::model::Model;
 use emp_command::delivery::Stored;
+use emp_command::words::Request;
 use emp_list::memory::NoMemory;
 use gms_print::print::print_model;
 use info_print::print::print_info;
@@ -38,14 +39,14 @@ fn saved(alloc: Global, name: &str, model: &Model, annot: &Annot) -> Result<Vec<
 /// The two canonical texts in files, where the words name them.
 pub fn saves(
     alloc: Global,
-    name: Option<&str>,
+    request: &Request,
     model: &Model,
     annot: &Annot,
 ) -> Result<Vec<Stored>, NoMemory>
     requires { IsPrintableModel model.now }
-    ensures { IfOk result (λ v. Saves model.now annot.now (word_of name) (map stored_of v.items)) }
+    ensures { IfOk result (λ v. Saves model.now annot.now (word_of request.now.output) (map stored_of v.items)) }
 {
-    match name {
+    match request.output {
         Some(name) => saved(alloc, name, model, annot),
         None => Ok(Vec::new(alloc)),
     }
