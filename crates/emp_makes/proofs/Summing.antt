@@ -63,6 +63,10 @@ module _ (x : Result Answer NoMemory) (m : Model) (a : Annot) (r : Asked) where
   pub made_answer : IsMarket r.seed r.firms m a → IfOk x Good → IfOk x (λ o. Makes r (outcome_of o))
   made_answer h p = ok_map x Good (λ o. Makes r (outcome_of o)) (λ o k. record { model = m; annot = a; market = h; sums = k }) p
 
+-- the values that were filled, as a slice
+pub has_values : (m : Model) (a : Annot) (s : Stated) (f : Found) (fs values list : List Frac) → IsStated m a s → CertGives s.system default_work (Ok f) → f.cert.verdict ≡ Point fs → values ≡ list → Fills m a s fs (Ok list) → HasValues m a values
+has_values m a s f fs values list i g v e h = record { stated = s; is = i; found = f; search = g; point = fs; verdict = v; fills = subst (λ vs. Fills m a s fs (Ok vs)) (sym e) h }
+
 -- the sums that are said
 pub says_sums : (m : Model) (a : Annot) (r : Asked) (t : Totals) (stores : List (List ℕ × List ℕ)) (text : List ℕ) (o : Outcome) → Saves m a r.output stores → text ≡ summary r.firms t.output t.profit → o ≡ record { status = 0; stores = stores; says = text } → SaysSums m a r t o
 says_sums m a r t stores text o h e k = record { stores = stores; saves = h; is = k ∙ ap (λ s. record { status = 0; stores = stores; says = s }) e }
