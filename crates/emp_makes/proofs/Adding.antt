@@ -6,7 +6,7 @@ use Rattle.emp_num.specs.Whole.{whole}
 use Rattle.emp_num.specs.declared.exact.Wide.{Wide}
 use Rattle.emp_num.specs.declared.frac.Frac.{Frac}
 use Rattle.emp_form.specs.Calls.{given, Runs}
-use Rattle.emp_form.proofs.Running.{runs_given, runs_added}
+use Rattle.emp_form.proofs.Running.{runs_added}
 use Rattle.emp_poly.specs.Written.{entry}
 use Rattle.emp_makes.specs.Makes.{sum_from, IsFirstWide}
 

@@ -1,10 +1,10 @@
 -- What is so of every answer of `make`.
-use Rattle.std.proofs.Common.{◌≡◌, ◌≢◌, ◌⊎◌, inl, inr, ℕ, ◌<◌, ◌≤◌, List, Ok, Err, arith, refl, sym, subst, ap, ◌∙◌}
+use Rattle.std.proofs.Common.{◌≡◌, ◌≢◌, ◌⊎◌, inl, inr, ℕ, arith, refl}
 use Rattle.emp_num.proofs.Commons.{common_point, stands_for_common}
 use Rattle.emp_ast.specs.declared.model.Model.{Model}
 use Rattle.emp_ast.specs.declared.annot.Annot.{Annot}
 use Rattle.emp_command.specs.Words.{Asked, default_work}
-use Rattle.emp_command.specs.Course.{Outcome, AreFirmsInRange}
+use Rattle.emp_command.specs.Course.{Outcome}
 use Rattle.emp_poly.specs.declared.tree.PolyFault.{PolyFault}
 use Rattle.emp_poly.specs.declared.tree.PolyFault.TheVariants as PolyWords
 use Rattle.emp_walk.specs.declared.fault.WalkFault.{WalkFault}
@@ -13,10 +13,12 @@ use Rattle.emp_solution.specs.declared.state.StateFault.{StateFault}
 use Rattle.emp_solution.specs.declared.state.StateFault.TheVariants as StateWords
 use Rattle.emp_lines.specs.ClassLines.{poly_status}
 use Rattle.emp_accepted.specs.Accepted.{IsAcceptedPair}
-use Rattle.emp_accepted.specs.Laws.{IsWideFault, AcceptedAreStated, AcceptedBreakNone}
-use Rattle.emp_market.specs.Laws.{MarketsAreAccepted}
+use Rattle.emp_accepted.specs.Laws.{IsWideFault}
+use Rattle.emp_accepted.proofs.Faults.{accepted_are_stated, accepted_break_none}
+use Rattle.emp_market.proofs.AcceptMarkets.{markets_are_accepted}
 use Rattle.emp_answers.specs.Answers.{state_status, walk_status, IsNamedFault, Refuses, bad_owner, unstated}
-use Rattle.emp_makes.specs.Makes.{SumsUp, refused, unfinished, unfilled, wide_output, wide_profit, made, Makes}
+use Rattle.emp_make.specs.Markets.{IsMarket}
+use Rattle.emp_makes.specs.Makes.{SumsUp, refused, unfinished, unfilled, wide_output, wide_profit, made}
 use Rattle.emp_makes.specs.Laws.{MakesEnd, ShowsSums, MadeShows}
 use Rattle.emp_makes.proofs.Deciding.{values_solve}
 
@@ -46,10 +48,10 @@ wide_ends StateWords.TooLarge n h = absurd h
 wide_ends (StateWords.WideRow k) n h = inr (inl refl)
 wide_ends StateWords.NoMemory n h = absurd n
 
-module _ (stated : AcceptedAreStated) (none : AcceptedBreakNone) (m : Model) (a : Annot) (accepted : IsAcceptedPair m a) where
+module _ (m : Model) (a : Annot) (accepted : IsAcceptedPair m a) where
   refusal_ends : (o : Outcome) → Refuses m a o → IsEnd o.status
-  refusal_ends o (bad_owner f n b) = absurd (none m a f n accepted b)
-  refusal_ends o (unstated f n k g) = wide_ends f n (stated m a f accepted g)
+  refusal_ends o (bad_owner f n b) = absurd (accepted_break_none m a f n accepted b)
+  refusal_ends o (unstated f n k g) = wide_ends f n (accepted_are_stated m a f accepted g)
 
   sums_end : (r : Asked) (o : Outcome) → SumsUp m a r o → IsEnd o.status
   sums_end r o (refused p h) = refusal_ends p h
@@ -59,8 +61,8 @@ module _ (stated : AcceptedAreStated) (none : AcceptedBreakNone) (m : Model) (a 
   sums_end r o (wide_profit values output w h k l) = inr (inl refl)
   sums_end r o (made values output profit stores h k l s) = inl refl
 
-pub ends : MarketsAreAccepted → AcceptedAreStated → AcceptedBreakNone → MakesEnd
-ends accepted stated none r o range h = sums_end stated none h.model h.annot (accepted r.seed r.firms h.model h.annot range.1 h.market) r o h.sums
+pub makes_end : MakesEnd
+makes_end r o range h = sums_end h.model h.annot (markets_are_accepted r.seed r.firms h.model h.annot range.1 h.market) r o h.sums
 
 -- ---- sums are those of an equilibrium
 poly_above : (f : PolyFault) → poly_status f ≡ 0 → ⊥
@@ -89,27 +91,28 @@ refusal_above : (m : Model) (a : Annot) (o : Outcome) → Refuses m a o → o.st
 refusal_above m a o (bad_owner f n b) e = omega (arith, e)
 refusal_above m a o (unstated f n k g) e = state_above f e
 
-shows : (r : Asked) (o : Outcome) (h : Makes r o) → SumsUp h.model h.annot r o → o.status ≡ 0 → ShowsSums r o
-shows r o h (refused p k) e = absurd (refusal_above h.model h.annot p k e)
-shows r o h (unfinished s f n i g) e = absurd (walk_above f e)
-shows r o h (unfilled s f w i g u) e = absurd (omega (arith, e))
-shows r o h (wide_output values w v k) e = absurd (omega (arith, e))
-shows r o h (wide_profit values output w v k l) e = absurd (omega (arith, e))
-shows r o h (made values output profit stores v k l s) e = record {
-  model = h.model;
-  annot = h.annot;
-  market = h.market;
-  values = values;
-  point = common_point values;
-  stands = stands_for_common values;
-  equilibrium = values_solve h.model h.annot v.stated v.is default_work v.found v.search v.point v.verdict values v.fills;
-  output = output;
-  profit = profit;
-  outputs = k;
-  profits = l;
-  says = refl;
-  stores = s;
-}
+module _ (r : Asked) (m : Model) (a : Annot) (market : IsMarket r.seed r.firms m a) where
+  shows : (o : Outcome) → SumsUp m a r o → o.status ≡ 0 → ShowsSums r o
+  shows o (refused p k) e = absurd (refusal_above m a p k e)
+  shows o (unfinished s f n i g) e = absurd (walk_above f e)
+  shows o (unfilled s f w i g u) e = absurd (omega (arith, e))
+  shows o (wide_output values w v k) e = absurd (omega (arith, e))
+  shows o (wide_profit values output w v k l) e = absurd (omega (arith, e))
+  shows o (made values output profit stores v k l s) e = record {
+    model = m;
+    annot = a;
+    market = market;
+    values = values;
+    point = common_point values;
+    stands = stands_for_common values;
+    equilibrium = values_solve m a v.stated v.is default_work v.found v.search v.point v.verdict values v.fills;
+    output = output;
+    profit = profit;
+    outputs = k;
+    profits = l;
+    says = refl;
+    stores = s;
+  }
 
 pub made_shows : MadeShows
-made_shows r o h e = shows r o h h.sums e
+made_shows r o h e = shows r h.model h.annot h.market o h.sums e

@@ -1,5 +1,5 @@
 -- What is answered over a market, step by step.
-use Rattle.std.proofs.Common.{◌≡◌, ◌≢◌, ◌⊎◌, inl, inr, ℕ, List, Option, Some, None, Result, Ok, Err, IfOk, refl, sym, subst, ap, ap₂, ◌∙◌}
+use Rattle.std.proofs.Common.{◌≡◌, ◌≢◌, ◌⊎◌, inl, inr, ℕ, List, Result, Ok, Err, IfOk, sym, subst, ap, ◌∙◌}
 use Rattle.emp_list.specs.declared.memory.NoMemory.{NoMemory}
 use Rattle.emp_num.specs.declared.frac.Frac.{Frac}
 use Rattle.emp_ast.specs.declared.tree.VarId.{VarId}
@@ -8,7 +8,6 @@ use Rattle.emp_ast.specs.declared.annot.Annot.{Annot}
 use Rattle.emp_command.specs.Words.{Asked, default_work}
 use Rattle.emp_command.specs.Course.{Outcome, refusal}
 use Rattle.emp_cert.specs.declared.cert.Found.{Found}
-use Rattle.emp_cert.specs.declared.cert.Verdict.{Verdict}
 use Rattle.emp_cert.specs.declared.cert.Verdict.TheVariants.{Point}
 use Rattle.emp_walk.specs.declared.fault.WalkFault.{WalkFault}
 use Rattle.emp_walk.specs.declared.fault.WalkFault.TheVariants as WalkWords

@@ -1,8 +1,6 @@
-use Rattle.std.proofs.Common.{arith, subst}
-use Rattle.std.specs.Prelude.{Ok}
+use Rattle.std.proofs.Common.{arith}
 use Rattle.emp_command.specs.Words.{default_work}
 use Rattle.emp_command.specs.Requests.{asked_of}
-use Rattle.emp_answers.specs.Answers.{Fills}
 use Rattle.emp_makes.proofs.Deciding.{point_fits}
 use Rattle.emp_makes.proofs.Summing.{unfilled_answer, has_values}
 use Rattle.emp_makes.proofs.answer.over_point.Goals as goal

@@ -5,8 +5,8 @@ use Rattle.emp_makes.proofs.Files.{market_printable}
 use Rattle.emp_makes.proofs.Summing.{says_sums}
 use Rattle.emp_makes.proofs.answer.sum_up.Goals as goal
 
-pub saves-files-requires : goal.saves-files-requires
-saves-files-requires c = market_printable c.args.request.now.seed c.args.request.now.firms c.args.model.now c.requires.market.model
+pub saves-requires : goal.saves-requires
+saves-requires c = market_printable c.args.request.now.seed c.args.request.now.firms c.args.model.now c.requires.market.model
 
 pub returns : goal.returns
 returns c =
