@@ -1,5 +1,5 @@
 -- What the way back of a point gives is the image, or the first wide fold, and what is so is what it gives.
-use Rattle.std.proofs.Common.{◌≡◌, ◌⊎◌, inl, inr, ℕ, ◌<◌, ◌≤◌, ℤ, ◌*ℤ◌, List, length, get_or, Option, Some, None, arith, refl, sym, ap, subst, ◌∙◌}
+use Rattle.std.proofs.Common.{◌≡◌, ◌⊎◌, inl, inr, ℕ, ◌<◌, List, length, Some, None, arith, refl, sym, ap, subst, ◌∙◌}
 use Rattle.std.proofs.lemmas.Option.{same_Some, none-some}
 use Rattle.emp_algebra.specs.Vector.{cell}
 use Rattle.emp_num.specs.Ratio.{SameRatio}

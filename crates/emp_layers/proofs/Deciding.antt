@@ -1,11 +1,11 @@
 -- Whether a fold of exact calls is wide is decided: what it gives is found, or it gives none.
-use Rattle.std.proofs.Common.{◌≡◌, ◌⊎◌, inl, inr, ℕ, zero, suc, ◌+◌, ◌<◌, ◌≤◌, ◌^◌, ℤ, pos, ◌+ℤ◌, ◌*ℤ◌, ◌<ℤ◌, List, [], ◌∷◌, length, get_or, unsigned_abs, arith, refl, sym, ap, subst, subst₂, ◌∙◌}
+use Rattle.std.proofs.Common.{◌≡◌, ◌⊎◌, inl, inr, ℕ, zero, suc, ◌<◌, ◌≤◌, ◌^◌, ℤ, pos, ◌+ℤ◌, ◌*ℤ◌, ◌<ℤ◌, List, [], ◌∷◌, length, get_or, unsigned_abs, arith, refl, ap, subst, subst₂}
 use Rattle.std.proofs.lemmas.Bool.{cases_lt}
 use Rattle.emp_algebra.specs.Vector.{cell}
 use Rattle.emp_algebra.proofs.Laws.{mul_pos}
 use Rattle.emp_num.specs.Exact.{IsNarrow, IsWide}
 use Rattle.emp_num.specs.FracSpec.{IsQuotient, AddsWide, MultipliesWide}
-use Rattle.emp_num.specs.Ratio.{Ratio, ratio}
+use Rattle.emp_num.specs.Ratio.{Ratio}
 use Rattle.emp_num.specs.Point.{Point, StandsFor}
 use Rattle.emp_num.specs.SamePoint.{lowest}
 use Rattle.emp_num.specs.declared.frac.Frac.{Frac}

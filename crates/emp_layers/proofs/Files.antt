@@ -1,17 +1,15 @@
 -- From the problem of a file to the file, as a rewriting asks it.
-use Rattle.std.proofs.Common.{◌≡◌, ◌↔◌, ℕ, ◌<◌, ℤ, pos, ◌*ℤ◌, ◌<ℤ◌, Bool, true, false, List, length, None, refl, sym, ap, subst, subst₂, ◌∙◌}
+use Rattle.std.proofs.Common.{◌≡◌, ◌↔◌, ℤ, pos, ◌*ℤ◌, ◌<ℤ◌, Bool, true, false, List, length, refl, sym, ap, subst, subst₂, ◌∙◌}
 use Rattle.std.proofs.lemmas.List.{length-map}
 use Rattle.emp_algebra.specs.Vector.{cell, scale}
 use Rattle.emp_algebra.proofs.Laws.{mul_pos}
-use Rattle.emp_num.specs.Ratio.{SameRatio}
-use Rattle.emp_num.specs.Point.{Point, coordinate}
+use Rattle.emp_num.specs.Point.{Point}
 use Rattle.emp_num.specs.SamePoint.{SamePoint}
 use Rattle.emp_num.proofs.SamePoints.{cross_on}
 use Rattle.emp_ast.specs.declared.model.Model.{Model}
 use Rattle.emp_ast.specs.declared.annot.Annot.{Annot}
 use Rattle.emp_ast.specs.Rivals.{Fits}
 use Rattle.emp_ast.specs.Bilevel.{IsBetterForLeader}
-use Rattle.emp_split.specs.Games.{Game}
 use Rattle.emp_split.specs.Meaning.{IsAdmissible, IsBetter}
 use Rattle.emp_problem.specs.declared.problem.AgentProblem.{AgentProblem}
 use Rattle.emp_problem.specs.Left.{left}
@@ -26,7 +24,6 @@ use Rattle.emp_meaning.specs.Ties.{left_at}
 use Rattle.emp_meaning.proofs.Move.{left_count, left_cell}
 use Rattle.emp_meaning.proofs.Leading.{not_led}
 use Rattle.emp_meaning.proofs.Assembly.{game_solves_file, file_solves_game, orders_agree}
-use Rattle.emp_verdict.specs.Laws.{IsFileOf}
 use Rattle.emp_layers.specs.Layers.{BetterBy, IsBetterOfFile, FitsProblem, SolvesProblem, IsBetterOfProblem, IsFilesProblem}
 use Rattle.emp_layers.specs.Image.{image}
 use Rattle.emp_layers.specs.Laws.{ImageIsFile, ImageIsOne, ImagesAreSame, ProblemIsSound, ProblemKeepsOrder, ProblemLifts, SolvingFits}

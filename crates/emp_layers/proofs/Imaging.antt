@@ -1,5 +1,5 @@
 -- The image of a point has the point's coordinates and meets the definitions.
-use Rattle.std.proofs.Common.{◌≡◌, ◌⊎◌, inl, inr, ℕ, zero, suc, ◌+◌, ◌<◌, ℤ, pos, neg_ℤ, ◌*ℤ◌, ◌<ℤ◌, true, false, cond, nat_eq, nat_lt, List, [], ◌∷◌, map, length, Option, Some, None, arith, refl, sym, ap, ap₂, subst, ◌∙◌}
+use Rattle.std.proofs.Common.{◌≡◌, ◌⊎◌, inl, inr, ℕ, zero, suc, ◌+◌, ◌<◌, ℤ, pos, neg_ℤ, ◌*ℤ◌, ◌<ℤ◌, true, false, cond, nat_eq, nat_lt, List, [], ◌∷◌, map, length, Option, Some, None, arith, refl, sym, ap, subst, ◌∙◌}
 use Rattle.std.specs.Prelude.{slice_get, slice_index_or, ◌&&◌}
 use Rattle.std.proofs.lemmas.Bool.{cases_Bool, false≢true, cond-true, cond-false, and_from, and_parts, eq-eqb}
 use Rattle.std.proofs.lemmas.Option.{same_Some}
@@ -9,9 +9,9 @@ use lib.IntN.{*ℤ-zero, zero-*ℤ}
 use Rattle.emp_algebra.specs.Vector.{cell, scale}
 use Rattle.emp_algebra.proofs.Ring.{var, neg, ◌⊗◌, by_ring}
 use Rattle.emp_algebra.proofs.Vectors.{length-scale, cell-scale}
-use Rattle.emp_num.specs.Ratio.{Ratio, ratio, SameRatio}
+use Rattle.emp_num.specs.Ratio.{ratio, SameRatio}
 use Rattle.emp_num.specs.Point.{Point, coordinate}
-use Rattle.emp_systems.specs.Steps.{Quadratic, value_squared}
+use Rattle.emp_systems.specs.Steps.{value_squared}
 use Rattle.emp_systems.proofs.Forms.{value-scaled}
 use Rattle.emp_ast.specs.declared.tree.VarId.{VarId}
 use Rattle.emp_ast.specs.declared.tree.EquId.{EquId}
@@ -26,21 +26,21 @@ use Rattle.emp_ast.specs.Parties.{Party, leader, block, equations, objective, bl
 use Rattle.emp_form.specs.Form.{Form, IsLinear}
 use Rattle.emp_game.specs.Game.{Purpose, goal, flow, Player}
 use Rattle.emp_game.specs.Conditions.{row_of}
-use Rattle.emp_split.specs.Games.{Leader, Game}
+use Rattle.emp_split.specs.Games.{Game}
 use Rattle.emp_left.specs.Left.{upper}
 use Rattle.emp_agents.specs.Given.{given_form}
 use Rattle.emp_problem.specs.Left.{left, place, signed_for, goal_form}
 use Rattle.emp_problem.specs.Left.{signed as signed_form}
-use Rattle.emp_problem.specs.GameOf.{IsQuadraticOf, IsPurposeOf, IsPlayerOf, ArePlayersOf, IsLeaderOf, LeadsAs, IsGameOf}
-use Rattle.emp_problem.specs.Class.{IsClassFile, MeetsDefinitions}
+use Rattle.emp_problem.specs.GameOf.{IsQuadraticOf, IsPurposeOf, IsPlayerOf, ArePlayersOf, IsGameOf}
+use Rattle.emp_problem.specs.Class.{IsClassFile}
 use Rattle.emp_meaning.specs.Laws.{left_nums}
-use Rattle.emp_meaning.specs.Ties.{left_at, IsParty, Places, signed_ratio}
+use Rattle.emp_meaning.specs.Ties.{left_at, IsParty, signed_ratio}
 use Rattle.emp_meaning.proofs.Move.{left_count, left_cell, named_passes, defines_own}
 use Rattle.emp_meaning.proofs.Places.{places, party_defines}
 use Rattle.emp_meaning.proofs.Values.{values}
 use Rattle.emp_meaning.proofs.Filling.{objective_within}
 use Rattle.emp_meaning.proofs.FillOwners.{chosen, chosen_is}
-use Rattle.emp_meaning.proofs.Leading.{Led, led}
+use Rattle.emp_meaning.proofs.Leading.{led}
 use Rattle.emp_verdict.specs.Laws.{IsFileOf}
 use Rattle.emp_layers.specs.Image.{purpose_goal, player_goal, leader_goal, party_goal, signed, objective_at, number_at, first_values, image_over}
 

@@ -1,5 +1,5 @@
 -- What solves a game solves it by larger numbers, and the leader's order stays.
-use Rattle.std.proofs.Common.{◌≡◌, ◌⊎◌, inl, inr, ◌↔◌, ℕ, suc, ℤ, pos, ◌+ℤ◌, ◌*ℤ◌, ◌≤ℤ◌, ◌<ℤ◌, true, List, [], ◌∷◌, map, Option, Some, None, arith, refl, sym, ap, ap₂, subst, subst₂, ◌∙◌}
+use Rattle.std.proofs.Common.{◌≡◌, ◌⊎◌, inl, inr, ◌↔◌, ℕ, ℤ, pos, ◌+ℤ◌, ◌*ℤ◌, ◌≤ℤ◌, ◌<ℤ◌, true, List, [], ◌∷◌, map, Option, Some, None, arith, refl, sym, ap, subst₂, ◌∙◌}
 use Rattle.emp_algebra.specs.Vector.{cell, dot, scale}
 use Rattle.emp_algebra.proofs.Laws.{mul_pos}
 use Rattle.emp_algebra.proofs.Order.{linear, mul_lt_right, mul_le_right, le_or_lt}
@@ -9,9 +9,9 @@ use Rattle.emp_systems.specs.Steps.{value_squared, IsAtMost}
 use Rattle.emp_systems.proofs.Forms.{value-scaled}
 use Rattle.emp_systems.proofs.Scaled.{value_scaled}
 use Rattle.emp_game.specs.Game.{Row, Rule, Purpose, goal, flow, Player, Ranges, owns}
-use Rattle.emp_game.specs.Solved.{value_at, flow_row, purpose_at, IsRival, IsSolved, AreMultipliers}
+use Rattle.emp_game.specs.Solved.{value_at, flow_row, purpose_at, IsSolved, AreMultipliers}
 use Rattle.emp_game.proofs.Multiplied.{flow_scaled, unscaled}
-use Rattle.emp_split.specs.Games.{Leader, Game, EachPlayer, has_rule, dual_of}
+use Rattle.emp_split.specs.Games.{Leader, Game, has_rule, dual_of}
 use Rattle.emp_split.specs.Numbers.{holder, is_priced}
 use Rattle.emp_split.specs.Meaning.{ArePrices, IsAdmissible, IsBetter}
 use Rattle.emp_split.proofs.Each.{each}

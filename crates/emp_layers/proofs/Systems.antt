@@ -1,5 +1,5 @@
 -- From the rows of a problem to the problem, as a rewriting asks it.
-use Rattle.std.proofs.Common.{◌≡◌, ◌↔◌, ℕ, ◌<◌, ◌≤◌, ℤ, pos, ◌*ℤ◌, List, take, length, get_or, arith, refl, sym, ap, subst, subst₂, ◌∙◌}
+use Rattle.std.proofs.Common.{◌≡◌, ◌↔◌, ℕ, ◌<◌, ◌≤◌, ℤ, pos, ◌*ℤ◌, List, take, length, get_or, arith, sym, subst, subst₂, ◌∙◌}
 use Rattle.std.proofs.lemmas.List.{length-map, length-take-le, get_or-take}
 use Rattle.emp_algebra.specs.Vector.{cell}
 use Rattle.emp_num.specs.declared.frac.Frac.{Frac}
@@ -11,7 +11,7 @@ use Rattle.emp_rows.specs.RowPoints.{Solves}
 use Rattle.emp_split.specs.Games.{Game, coordinates, IsConvexGame}
 use Rattle.emp_split.specs.Meaning.{IsAdmissible, IsSplit, IsBetter}
 use Rattle.emp_split.proofs.Reforms.{front, front_same, front_lifts}
-use Rattle.emp_conditions.specs.Base.{base_slots, split_of}
+use Rattle.emp_conditions.specs.Base.{base_slots}
 use Rattle.emp_conditions.proofs.Sound.{split_front}
 use Rattle.emp_quantities.specs.System.{IsBelowBy}
 use Rattle.emp_quantities.specs.Over.{IsSystemOver}
@@ -20,11 +20,10 @@ use Rattle.emp_quantities.proofs.Numbering.{over_orders}
 use Rattle.emp_problem.specs.declared.problem.AgentProblem.{AgentProblem}
 use Rattle.emp_problem.specs.Problem.{game, IsOver}
 use Rattle.emp_whole.proofs.Multiples.{each_problem_is_whole}
-use Rattle.emp_meaning.specs.Laws.{IsWellMade}
 use Rattle.emp_share.proofs.Passing.{passing_is_convex}
 use Rattle.emp_verdict.proofs.Rows.{rows_admissible}
 use Rattle.emp_solution.proofs.Fit.{base_reaches}
-use Rattle.emp_layers.specs.Layers.{FitsProblem, SolvesProblem, IsBetterOfProblem, IsProblemsSystem}
+use Rattle.emp_layers.specs.Layers.{SolvesProblem, IsBetterOfProblem, IsProblemsSystem}
 use Rattle.emp_layers.specs.Laws.{RowsFit, RowsAreSound, RowsKeepOrder, RowsLift}
 
 pub rows_fit : RowsFit

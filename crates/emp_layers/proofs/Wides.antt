@@ -1,11 +1,10 @@
 -- The first defined objective whose fold is wide is found, or there is none.
-use Rattle.std.proofs.Common.{◌≡◌, ◌⊎◌, inl, inr, ℕ, ◌<◌, Bool, true, false, List, length, Option, Some, None, arith, refl, sym, ap, subst, ◌∙◌}
+use Rattle.std.proofs.Common.{◌≡◌, inl, inr, ℕ, Bool, true, false, List, length, Option, Some, None, refl, sym, ap, subst, ◌∙◌}
 use Rattle.std.specs.Prelude.{slice_get}
-use Rattle.std.proofs.lemmas.Bool.{false≢true, cases_lt}
+use Rattle.std.proofs.lemmas.Bool.{false≢true}
 use Rattle.std.proofs.lemmas.Option.{same_Some, none-some, slice_get_within}
 use Rattle.emp_num.specs.Point.{Point, StandsFor}
 use Rattle.emp_num.specs.declared.frac.Frac.{Frac}
-use Rattle.emp_num.proofs.SamePoints.{stands_one_list, same_itself}
 use Rattle.emp_ast.specs.declared.model.Model.{Model}
 use Rattle.emp_ast.specs.declared.annot.Annot.{Annot}
 use Rattle.emp_ast.specs.Parties.{leader, block, is_defined_of}
@@ -17,10 +16,10 @@ use Rattle.emp_problem.specs.declared.problem.Purpose.TheVariants.{Goal, Flow}
 use Rattle.emp_problem.specs.declared.problem.BlockPart.{BlockPart}
 use Rattle.emp_problem.specs.declared.problem.LeaderPart.{LeaderPart}
 use Rattle.emp_problem.specs.declared.problem.AgentProblem.{AgentProblem}
-use Rattle.emp_subst.specs.Fill.{IsBlockFold, IsLeaderFold, IsFold, IsFirstWide, spread}
+use Rattle.emp_subst.specs.Fill.{IsBlockFold, IsLeaderFold, IsFold, spread}
 use Rattle.emp_subst.specs.Filling.{IsWideAt}
 use Rattle.emp_subst.proofs.Turning.{wide_goal}
-use Rattle.emp_layers.proofs.Deciding.{Decided, IsFirstOf, NoneOf, First, first_of, Listed, line_known, written_known, stood_by}
+use Rattle.emp_layers.proofs.Deciding.{Decided, First, first_of, Listed, line_known, written_known, stood_by}
 
 module _ (m : Model) (a : Annot) (pr : AgentProblem) (xs : List Frac) (v : ℕ) where
   -- ---- one block

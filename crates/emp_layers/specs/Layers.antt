@@ -1,5 +1,5 @@
 -- What fits and solves a file and the problem of its variables that are left, and which of two points is better.
-use Rattle.std.specs.Prelude.{◌≡◌, ℕ, ◌<◌, ◌^◌, ℤ, Bool, true, false, length, Ok}
+use Rattle.std.specs.Prelude.{◌≡◌, ℤ, Bool, true, false, length, Ok}
 use Rattle.emp_num.specs.Point.{Point}
 use Rattle.emp_ast.specs.declared.model.Model.{Model}
 use Rattle.emp_ast.specs.declared.annot.Annot.{Annot}
