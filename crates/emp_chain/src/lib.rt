@@ -7,6 +7,7 @@
 pub mod chain;
 pub mod file;
 pub mod kkt;
+pub mod laws;
 pub mod left;
 pub mod rows;
 pub mod share;

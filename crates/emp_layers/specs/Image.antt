@@ -19,21 +19,21 @@ use Rattle.emp_meaning.proofs.FillOwners.{chosen}
 use Rattle.emp_whole.proofs.Multiples.{each_problem_is_whole}
 
 -- ---- objectives in whole numbers, as they are to be least
-abbrev pub nothing : List ℕ → Quadratic
-nothing vs = record { constant = pos 0; linear = []; square = [] }
+abbrev pub nothing : Quadratic
+nothing = record { constant = pos 0; linear = []; square = [] }
 
 abbrev pub purpose_goal : Purpose → Quadratic
 purpose_goal (goal q) = q
-purpose_goal (flow fs) = nothing []
+purpose_goal (flow fs) = nothing
 
 abbrev pub player_goal : Option Player → Quadratic
 player_goal (Some pl) = purpose_goal pl.purpose
-player_goal None = nothing []
+player_goal None = nothing
 
 -- an affine objective has no products
 abbrev pub leader_goal : List ℕ → Option Leader → Quadratic
 leader_goal vs (Some l) = record { constant = l.goal.constant; linear = l.goal.cells; square = map (λ u. map (λ v. pos 0) vs) vs }
-leader_goal vs None = nothing []
+leader_goal vs None = nothing
 
 abbrev pub party_goal : List ℕ → Game → Party → Quadratic
 party_goal vs g leader = leader_goal vs g.leader
