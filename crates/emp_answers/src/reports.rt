@@ -10,13 +10,17 @@ ghost use Rattle.emp_answers.specs.Outcomes.{IsReady, PointReportGives, ReportGi
 use crate::stated::Ready;
 use emp_ast::annot::Annot;
 use emp_ast::model::Model;
+use emp_ast::tree::VarId;
 use emp_cert::cert::{Found, Verdict};
 use emp_cert::tree::Tree;
+use emp_chain::chain::values_at;
 use emp_list::seq::Seq;
 use emp_num::frac::Frac;
+use emp_reform::fault::BackFault;
 use emp_report::report;
+use emp_rows::point::RowPoint;
 use emp_subst::fault::FillFault;
-use emp_subst::fill::{fill, spread};
+use emp_subst::fill::spread;
 use std::alloc::Global;
 
 /// A status and a report.
@@ -26,7 +30,7 @@ pub struct Report {
     pub text: Vec<u8>,
 }
 
-/// The values of the model's variables at a row point.
+/// The values of the model's variables at a row point, by the way back of the rewritings from the file to its rows.
 pub fn values(
     alloc: Global,
     model: &Model,
@@ -39,15 +43,12 @@ pub fn values(
     requires point { length point.now ≡ ready.now.stated.system.base }
     ensures { Fills model.now annot.now ready.now.stated point.now result }
 {
-    let count = ready.stated.problem.variables.len();
-    fill(
-        alloc,
-        model,
-        annot,
-        &ready.owned,
-        &ready.stated.problem,
-        &point[..count],
-    )
+    let point = RowPoint::of(Seq::of_slice(alloc, point)?);
+    match values_at(alloc, model, annot, &ready.owned, &ready.stated, &point) {
+        Ok(found) => Ok(found.values),
+        Err(BackFault::Wide(at)) => Err(FillFault::Wide(VarId { at })),
+        Err(BackFault::NoMemory) => Err(FillFault::NoMemory),
+    }
 }
 
 /// The report of an equilibrium.
