@@ -1,5 +1,5 @@
 -- What `check` answers over a certificate that the program found.
-use Rattle.std.proofs.Common.{◌≡◌, ℕ, ◌⊎◌, inl, inr, List, [], ◌∷◌, ◌++◌, map, codes, Ok, refl, sym, ap, subst, ◌∙◌}
+use Rattle.std.proofs.Common.{◌≡◌, ℕ, ◌⊎◌, inl, inr, true, List, [], ◌∷◌, ◌++◌, map, codes, Ok, refl, sym, ap, subst, ◌∙◌}
 use Rattle.emp_desk.specs.Desk.{Contents, Says}
 use Rattle.emp_command.specs.declared.words.Verb.TheVariants.{Solve, Check, Print, Migrate}
 use Rattle.emp_command.specs.Words.{Asked, Asks, solve, check, print, make, migrate, pieces}
@@ -14,7 +14,7 @@ use Rattle.emp_engine.specs.Run.{IsCheck, HasVerb, TextsSay, HoldsOwn, Passes, N
 use Rattle.emp_engine.proofs.Headline.{not_verbs, said_alone}
 use Rattle.emp_engine.proofs.Verbs.{check_verb, other_words}
 use Rattle.emp_engine.proofs.Clauses.{print_check, solve_check, migrate_check}
-use Rattle.emp_engine.proofs.Whole.{is_done}
+use Rattle.emp_engine.proofs.Whole.{does_now}
 
 -- the files that words of `check` name are the words behind it
 check_files : (words : List (List ℕ)) (r : Asked) → IsCheck words → Asks words r → words ≡ codes "check" ∷ r.files
@@ -68,9 +68,9 @@ module _ (words : List (List ℕ)) (x : Contents) (c : IsCheck words) (own : Hol
   passes y end n (inr e) = inr (e.0, sym n.is ∙ ap (λ o. o.status) e.1, said_alone words x y end n _ (ap (λ o. o.stores) e.1) (ap (λ o. o.says) e.1))
 
   answered_passes : (y : Contents) (end : ℕ) → IsAnswered words x y end → Passes own.found.cert.verdict end x y
+  unfolding names_own
   answered_passes y end n =
-      let d = is_done words x y end own.model own.annot names_own n in
-      let h = checks_of n.request (map x.holds own.texts.others) n.outcome d.does (check_verb words n.request c n.asked) in
+      let h = checks_of n.request (map x.holds own.texts.others) n.outcome (does_now words x y end own.model own.annot names_own n) (check_verb words n.request c n.asked) in
       passes y end n (own_passes own.model own.annot own.stated own.work own.found n.outcome own.rows own.search (subst (λ ct. Checks own.model own.annot ct n.outcome) (own_text h.ct own.texts.others own.third h.is) h.checks))
 
   pub either_passes : (y : Contents) (end : ℕ) → (end ≡ 21) ⊎ IsAnswered words x y end → (end ≡ 21) ⊎ Passes own.found.cert.verdict end x y

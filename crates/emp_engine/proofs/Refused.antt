@@ -1,5 +1,5 @@
 -- What was said and stored after a refusal.
-use Rattle.std.proofs.Common.{◌≡◌, ◌≢◌, ℕ, ◌⊎◌, inl, inr, true, false, List, [], ◌∷◌, ◌++◌, map, codes, decimal, refl, sym, ap, subst, ◌∙◌}
+use Rattle.std.proofs.Common.{◌≡◌, ◌≢◌, ℕ, ◌⊎◌, inl, inr, true, false, List, [], ◌∷◌, ◌++◌, map, Option, Some, refl, sym, ap, subst, ◌∙◌}
 use Rattle.std.proofs.lemmas.Bool.{false≢true}
 use Rattle.std.proofs.lemmas.List.{append-nil}
 use Rattle.emp_desk.specs.Desk.{Place, Contents, IsPrefix, KeepsAll, Says, SaysPrefix}
@@ -64,74 +64,74 @@ Begins status line = IsFaultLine status line
 
 model_begins : (text : List ℕ) (f : ModelFault) → f ≢ ModelWords.NoMemory → RefusesModel text f → Begins 14 (model_line f)
 model_begins text f n (inl e) = absurd (n e)
-model_begins text (ModelWords.Lex (LexWords.BadByte p)) n (inr h) = (_, refl)
-model_begins text (ModelWords.Lex (LexWords.LongName p)) n (inr h) = (_, refl)
-model_begins text (ModelWords.Lex (LexWords.OpenBlock p)) n (inr h) = (_, refl)
-model_begins text (ModelWords.Lex (LexWords.Dollar p)) n (inr h) = (_, refl)
-model_begins text (ModelWords.Lex (LexWords.Number p)) n (inr h) = (_, refl)
+model_begins text (ModelWords.Lex (LexWords.BadByte p)) n (inr h) = refl
+model_begins text (ModelWords.Lex (LexWords.LongName p)) n (inr h) = refl
+model_begins text (ModelWords.Lex (LexWords.OpenBlock p)) n (inr h) = refl
+model_begins text (ModelWords.Lex (LexWords.Dollar p)) n (inr h) = refl
+model_begins text (ModelWords.Lex (LexWords.Number p)) n (inr h) = refl
 model_begins text (ModelWords.Lex LexWords.NoMemory) n (inr h) = absurd (first_fault_named text h)
-model_begins text (ModelWords.Syntax p) n (inr h) = (_, refl)
-model_begins text (ModelWords.Undeclared p) n (inr h) = (_, refl)
-model_begins text (ModelWords.Twice p) n (inr h) = (_, refl)
-model_begins text (ModelWords.Discrete p) n (inr h) = (_, refl)
-model_begins text (ModelWords.Attribute p) n (inr h) = (_, refl)
-model_begins text (ModelWords.Function p) n (inr h) = (_, refl)
-model_begins text (ModelWords.TooLarge p) n (inr h) = (_, refl)
-model_begins text (ModelWords.Undefined e name) n (inr h) = (_, refl)
-model_begins text (ModelWords.BoundsCross v name) n (inr h) = (_, refl)
+model_begins text (ModelWords.Syntax p) n (inr h) = refl
+model_begins text (ModelWords.Undeclared p) n (inr h) = refl
+model_begins text (ModelWords.Twice p) n (inr h) = refl
+model_begins text (ModelWords.Discrete p) n (inr h) = refl
+model_begins text (ModelWords.Attribute p) n (inr h) = refl
+model_begins text (ModelWords.Function p) n (inr h) = refl
+model_begins text (ModelWords.TooLarge p) n (inr h) = refl
+model_begins text (ModelWords.Undefined e name) n (inr h) = refl
+model_begins text (ModelWords.BoundsCross v name) n (inr h) = refl
 model_begins text ModelWords.NoMemory n (inr h) = absurd h
 
 info_begins : (text : List ℕ) (m : Model) (f : InfoFault) → f ≢ InfoWords.NoMemory → RefusesInfo text m f → Begins 15 (info_line f)
 info_begins text m f n (inl e) = absurd (n e)
-info_begins text m (InfoWords.Lex (LexWords.BadByte p)) n (inr h) = (_, refl)
-info_begins text m (InfoWords.Lex (LexWords.LongName p)) n (inr h) = (_, refl)
-info_begins text m (InfoWords.Lex (LexWords.OpenBlock p)) n (inr h) = (_, refl)
-info_begins text m (InfoWords.Lex (LexWords.Dollar p)) n (inr h) = (_, refl)
-info_begins text m (InfoWords.Lex (LexWords.Number p)) n (inr h) = (_, refl)
+info_begins text m (InfoWords.Lex (LexWords.BadByte p)) n (inr h) = refl
+info_begins text m (InfoWords.Lex (LexWords.LongName p)) n (inr h) = refl
+info_begins text m (InfoWords.Lex (LexWords.OpenBlock p)) n (inr h) = refl
+info_begins text m (InfoWords.Lex (LexWords.Dollar p)) n (inr h) = refl
+info_begins text m (InfoWords.Lex (LexWords.Number p)) n (inr h) = refl
 info_begins text m (InfoWords.Lex LexWords.NoMemory) n (inr h) = absurd (first_fault_named text h)
-info_begins text m (InfoWords.Syntax p) n (inr h) = (_, refl)
-info_begins text m (InfoWords.Unknown p) n (inr h) = (_, refl)
-info_begins text m (InfoWords.WrongKind p) n (inr h) = (_, refl)
+info_begins text m (InfoWords.Syntax p) n (inr h) = refl
+info_begins text m (InfoWords.Unknown p) n (inr h) = refl
+info_begins text m (InfoWords.WrongKind p) n (inr h) = refl
 info_begins text m InfoWords.NoMemory n (inr h) = absurd h
 
 own_begins : (m : Model) (f : OwnFault) → f ≢ OwnWords.NoMemory → Begins 16 (own_line m f)
-own_begins m OwnWords.LeaderMissing n = (_, refl)
-own_begins m (OwnWords.Unowned v) n = (_, refl)
-own_begins m (OwnWords.OwnedTwice v) n = (_, refl)
-own_begins m (OwnWords.EquationTwice e) n = (_, refl)
-own_begins m (OwnWords.EquationLeft e) n = (_, refl)
-own_begins m (OwnWords.ViRelation e) n = (_, refl)
-own_begins m (OwnWords.NotConstraint e) n = (_, refl)
-own_begins m (OwnWords.DualShared e) n = (_, refl)
-own_begins m (OwnWords.DualTwice e) n = (_, refl)
-own_begins m (OwnWords.DualBound v) n = (_, refl)
-own_begins m (OwnWords.ImplicitUse v) n = (_, refl)
-own_begins m (OwnWords.ImplicitRelation e) n = (_, refl)
+own_begins m OwnWords.LeaderMissing n = refl
+own_begins m (OwnWords.Unowned v) n = refl
+own_begins m (OwnWords.OwnedTwice v) n = refl
+own_begins m (OwnWords.EquationTwice e) n = refl
+own_begins m (OwnWords.EquationLeft e) n = refl
+own_begins m (OwnWords.ViRelation e) n = refl
+own_begins m (OwnWords.NotConstraint e) n = refl
+own_begins m (OwnWords.DualShared e) n = refl
+own_begins m (OwnWords.DualTwice e) n = refl
+own_begins m (OwnWords.DualBound v) n = refl
+own_begins m (OwnWords.ImplicitUse v) n = refl
+own_begins m (OwnWords.ImplicitRelation e) n = refl
 own_begins m OwnWords.NoMemory n = absurd (n refl)
 
 state_begins : (m : Model) (f : StateFault) → IsNamedFault f → Begins (state_status f) (state_line m f)
-state_begins m (StateWords.Poly (PolyWords.Degree p)) n = (_, refl)
-state_begins m (StateWords.Poly (PolyWords.DivideByVariable p)) n = (_, refl)
-state_begins m (StateWords.Poly (PolyWords.DivideByZero p)) n = (_, refl)
-state_begins m (StateWords.Poly (PolyWords.Wide p)) n = (_, refl)
+state_begins m (StateWords.Poly (PolyWords.Degree p)) n = refl
+state_begins m (StateWords.Poly (PolyWords.DivideByVariable p)) n = refl
+state_begins m (StateWords.Poly (PolyWords.DivideByZero p)) n = refl
+state_begins m (StateWords.Poly (PolyWords.Wide p)) n = refl
 state_begins m (StateWords.Poly PolyWords.NoMemory) n = absurd n
-state_begins m (StateWords.Quadratic e u v) n = (_, refl)
-state_begins m (StateWords.LeaderNotLinear u v) n = (_, refl)
-state_begins m (StateWords.NotConvex b k) n = (_, refl)
-state_begins m (StateWords.WideCurve b k) n = (_, refl)
-state_begins m StateWords.TooLarge n = (_, refl)
-state_begins m (StateWords.WideRow k) n = (_, refl)
+state_begins m (StateWords.Quadratic e u v) n = refl
+state_begins m (StateWords.LeaderNotLinear u v) n = refl
+state_begins m (StateWords.NotConvex b k) n = refl
+state_begins m (StateWords.WideCurve b k) n = refl
+state_begins m StateWords.TooLarge n = refl
+state_begins m (StateWords.WideRow k) n = refl
 state_begins m StateWords.NoMemory n = absurd n
 
 walk_begins : (f : WalkFault) → f ≢ WalkWords.NoMemory → Begins (walk_status f) (walk_line f)
-walk_begins (WalkWords.Wide node pivot) n = (_, refl)
-walk_begins (WalkWords.Spent limit) n = (_, refl)
+walk_begins (WalkWords.Wide node pivot) n = refl
+walk_begins (WalkWords.Spent limit) n = refl
 walk_begins WalkWords.NoMemory n = absurd (n refl)
 
 cert_begins : (f : CertFault) → f ≢ CertWords.NoMemory → f ≢ CertWords.TooLong → Begins 22 (cert_line f)
-cert_begins CertWords.Version n l = (_, refl)
-cert_begins (CertWords.Syntax k) n l = (_, refl)
-cert_begins (CertWords.Range k) n l = (_, refl)
+cert_begins CertWords.Version n l = refl
+cert_begins (CertWords.Syntax k) n l = refl
+cert_begins (CertWords.Range k) n l = refl
 cert_begins CertWords.TooLong n l = absurd (l refl)
 cert_begins CertWords.NoMemory n l = absurd (n refl)
 
@@ -164,15 +164,15 @@ module _ (m : Model) (a : Annot) where
   solves_line : (r : Asked) (o : Outcome) → Solves m a r o → Refused o
   solves_line r o (refused p h) = refuses_line p h
   solves_line r o (unfinished s f n i g) = line_of (walk_status f) _ (walk_begins f n)
-  solves_line r o (unfilled s f w i g u) = line_of 19 _ (_, refl)
-  solves_line r o (too_long s f t i g k l) = line_of 24 _ (_, refl)
+  solves_line r o (unfilled s f w i g u) = line_of 19 _ refl
+  solves_line r o (too_long s f t i g k l) = line_of 24 _ refl
   solves_line r o (answered s f t i g k l) = report_line s f f.cert.verdict t o k refl
 
   unaccepted_line : (ct : List ℕ) (o : Outcome) → Unaccepted m a ct o → Refused o
   unaccepted_line ct o (no_rows p h) = refuses_line p h
   unaccepted_line ct o (bad_text s f n l i h) = line_of 22 _ (cert_begins f n l)
-  unaccepted_line ct o (rejected s c node w i t h) = line_of 23 _ (_, refl)
-  unaccepted_line ct o (wide_sum s c node i t h) = line_of 19 _ (_, refl)
+  unaccepted_line ct o (rejected s c node w i t h) = line_of 23 _ refl
+  unaccepted_line ct o (wide_sum s c node i t h) = line_of 19 _ refl
 
   checks_line : (ct : List ℕ) (o : Outcome) → Checks m a ct o → Refused o
   checks_line ct o (unaccepted p h) = unaccepted_line ct p h
@@ -180,7 +180,7 @@ module _ (m : Model) (a : Annot) where
 
   migrates_line : (ct name : List ℕ) (o : Outcome) → Migrates m a ct name o → Refused o
   migrates_line ct name o (unmigrated p h) = unaccepted_line ct p h
-  migrates_line ct name o (migrated_long s c d h u l) = line_of 24 _ (_, refl)
+  migrates_line ct name o (migrated_long s c d h u l) = line_of 24 _ refl
   migrates_line ct name o (migrated s c d h u l) = not_refused 0 o refl refl
 
   does_line : (r : Asked) (rest : List (List ℕ)) (o : Outcome) → Does m a r rest o → Refused o
@@ -190,7 +190,7 @@ module _ (m : Model) (a : Annot) where
   does_line r rest o (migrates ct name p v n h) = migrates_line ct name p h
 
 answers_line : (r : Asked) (ts : List (List ℕ)) (o : Outcome) → Answers r ts o → Refused o
-answers_line r ts o (unbuilt us h) = line_of 30 _ (_, refl)
+answers_line r ts o (unbuilt us h) = line_of 30 _ refl
 answers_line r ts o (bad_model mt it rest f b n h) = line_of 14 _ (model_begins mt f n h)
 answers_line r ts o (bad_info mt it rest m f b t n h) = line_of 15 _ (info_begins it m f n h)
 answers_line r ts o (done mt it rest m a p b t i h) = does_line m a r rest p h
@@ -198,9 +198,9 @@ answers_line r ts o (done mt it rest m a p b t i h) = does_line m a r rest p h
 sums_line : (m : Model) (a : Annot) (r : Asked) (o : Outcome) → SumsUp m a r o → Refused o
 sums_line m a r o (Made.refused p h) = refuses_line m a p h
 sums_line m a r o (Made.unfinished s f n i g) = line_of (walk_status f) _ (walk_begins f n)
-sums_line m a r o (Made.unfilled s f w i g u) = line_of 19 _ (_, refl)
-sums_line m a r o (Made.wide_output vs w h q) = line_of 19 _ (_, refl)
-sums_line m a r o (Made.wide_profit vs output w h q k) = line_of 19 _ (_, refl)
+sums_line m a r o (Made.unfilled s f w i g u) = line_of 19 _ refl
+sums_line m a r o (Made.wide_output vs w h q) = line_of 19 _ refl
+sums_line m a r o (Made.wide_profit vs output w h q k) = line_of 19 _ refl
 sums_line m a r o (Made.made vs output profit ss h q k st) = not_refused 0 o refl refl
 
 answer_line : (r : Asked) (ts : List (List ℕ)) (o : Outcome) → IsAnswer r ts o → Refused o
@@ -210,11 +210,11 @@ answer_line r ts o (market p v h) = sums_line h.model h.annot r p h.sums
 -- ---- the course
 module _ (words : List (List ℕ)) (f0 f1 : Place → ℕ) (x y : Contents) where
   due_line : (o : Outcome) → IsDue IsAnswer words f0 f1 x o → Refused o
-  due_line o (bad_words h) = line_of 10 _ (_, refl)
-  due_line o (bad_work r a h) = line_of 24 _ (_, refl)
-  due_line o (bad_firms r a v h) = line_of 24 _ (_, refl)
-  due_line o (unread r k n a i c h) = line_of 11 _ (_, refl)
-  due_line o (too_long r k n a i c h) = line_of 13 _ (_, refl)
+  due_line o (bad_words h) = line_of 10 _ refl
+  due_line o (bad_work r a h) = line_of 24 _ refl
+  due_line o (bad_firms r a v h) = line_of 24 _ refl
+  due_line o (unread r k n a i c h) = line_of 11 _ refl
+  due_line o (too_long r k n a i c h) = line_of 13 _ refl
   due_line o (answered r p a i fit ans) = answer_line r (map x.holds r.files) p ans
   due_line o (no_memory r a i) = not_refused 21 o refl refl
 

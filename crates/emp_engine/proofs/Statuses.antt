@@ -197,7 +197,7 @@ saves_named : (m : Model) (a : Annot) (o : Option (List ℕ)) (ss : List (List �
 saves_named m a None ss e = subst (AreNamed []) (sym e) tt
 saves_named m a (Some name) ss h =
     let n = two_named (name ++ codes ".gms") (name ++ codes ".info") in
-    subst (AreNamed (written_by Make (Some name))) (sym h.2) (n.0, n.1, tt)
+    subst (AreNamed (written_by Make (Some name))) (sym h.2) (n.0, (n.1, tt))
 
 sums_named : (m : Model) (a : Annot) (r : Asked) (o : Outcome) → r.verb ≡ Make → SumsUp m a r o → AreNamed (written r) o.stores
 sums_named m a r o v (Made.refused p h) = refuses_named m a p (written r) h

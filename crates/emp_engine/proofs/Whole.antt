@@ -116,6 +116,10 @@ module _ (x : Contents) (r : Asked) (m : Model) (a : Annot) (t : NamesTexts r x 
   answer_does ts o e (over_texts us p h) = answers_does us p e h
   answer_does ts o e (market p v h) = absurd (some_files t.model_file (t.info_file ∷ t.others) r.files t.files e)
 
+-- what the verb did over the two
+pub does_now : (words : List (List ℕ)) (x y : Contents) (end : ℕ) (m : Model) (a : Annot) (all : (r : Asked) → Asks words r → NamesTexts r x m a) (n : IsAnswered words x y end) → Does m a n.request (map x.holds (all n.request n.asked).others) n.outcome
+does_now words x y end m a all n = answer_does x n.request m a (all n.request n.asked) (map x.holds n.request.files) n.outcome refl n.answers
+
 pub is_done : (words : List (List ℕ)) (x y : Contents) (end : ℕ) (m : Model) (a : Annot) → ((r : Asked) → Asks words r → NamesTexts r x m a) → IsAnswered words x y end → IsDone words m a x y end
 is_done words x y end m a all n =
     let t = all n.request n.asked in
@@ -127,7 +131,7 @@ is_done words x y end m a all n =
       others = t.others;
       files = t.files;
       outcome = n.outcome;
-      does = answer_does x n.request m a t (map x.holds n.request.files) n.outcome refl n.answers;
+      does = does_now words x y end m a all n;
       is = n.is;
       between = n.between;
       stored = n.stored;

@@ -1,5 +1,5 @@
 -- What the clauses of `run` say, by the status that it answers.
-use Rattle.std.specs.Prelude.{◌≡◌, ◌≢◌, ◌⊎◌, ℕ, Bool, true, false, nat_eq, bytes_eq, List, [], ◌∷◌, ◌++◌, map, codes, decimal, Option, Some, None, Ok}
+use Rattle.std.specs.Prelude.{◌≡◌, ◌≢◌, ◌⊎◌, ℕ, ◌+◌, ◌/◌, ◌%◌, Bool, true, false, nat_eq, bytes_eq, List, [], ◌∷◌, ◌++◌, map, take, codes, Option, Some, None, Ok}
 use Rattle.std.specs.List.{list_any}
 use Rattle.emp_num.specs.declared.frac.Frac.{Frac}
 use Rattle.emp_num.specs.Point.{Point, StandsFor}
@@ -374,9 +374,9 @@ KeepsOthers words before after = (name : List ℕ) → ((r : Asked) → Asks wor
 abbrev pub is_refusal : ℕ → Bool
 is_refusal s = list_any (λ k. nat_eq k s) (10 ∷ 11 ∷ 13 ∷ 14 ∷ 15 ∷ 16 ∷ 17 ∷ 18 ∷ 19 ∷ 20 ∷ 22 ∷ 23 ∷ 24 ∷ 30 ∷ [])
 
--- the line names the status
+-- the line begins with the status in its two digits
 abbrev pub IsFaultLine : ℕ → List ℕ → Type 0
-IsFaultLine status line = (rest : List ℕ) × (line ≡ codes "error " ++ decimal status ++ codes ": " ++ rest)
+IsFaultLine status line = take 10 line ≡ codes "error " ++ (48 + status / 10) ∷ (48 + status % 10) ∷ codes ": "
 
 -- only the line of the refusal was said, and no file changed; where no memory is asked for, a desk that finds none says a prefix of it
 pub record SaysRefusal (status : ℕ) (words : List (List ℕ)) (before after : Contents) : Type 0 where

@@ -17,7 +17,7 @@ answer_texts-requires g c = record {
 pub returns-in-Ok-answer_texts : goal.returns-in-Ok-answer_texts
 returns-in-Ok-answer_texts g c words asks =
     let h = c.in-Ok.ensures in
-    said_ends words _ _ _ _ _ _ h.none_falls h.keeps (asked_of c.args.request.now) asks c.requires.range c.in-Ok.texts c.as_slice.result.now (outcome_of c.in-Ok-answer_texts.answer) _ c.as_slice.ensures h.texts (over_texts c.as_slice.result.now (outcome_of c.in-Ok-answer_texts.answer) c.in-Ok-answer_texts.ensures) (other_market words (asked_of c.args.request.now) _ asks c.requires.verb) c.say.ensures.told c.say.ensures.cause
+    said_ends words _ _ _ _ _ _ h.none_falls h.keeps (asked_of c.args.request.now) asks c.requires.range c.in-Ok.texts c.as_slice.result.now (outcome_of c.in-Ok-answer_texts.answer) _ c.as_slice.ensures h.texts (over_texts c.as_slice.result.now (outcome_of c.in-Ok-answer_texts.answer) c.in-Ok-answer_texts.ensures) (other_market words (asked_of c.args.request.now) (outcome_of c.in-Ok-answer_texts.answer).status asks c.requires.verb) c.say.ensures.told c.say.ensures.cause
 
 pub returns-in-Ok : goal.returns-in-Ok
 returns-in-Ok g c words asks =
