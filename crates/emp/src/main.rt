@@ -2,6 +2,8 @@
 #![tactic(auto)]
 
 mod file_desk;
+#[cfg(test)]
+mod file_run;
 
 use emp_engine::run::run;
 use file_desk::FileDesk;

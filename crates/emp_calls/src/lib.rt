@@ -6,6 +6,8 @@ mod certificates;
 #[cfg(test)]
 mod devices;
 #[cfg(test)]
+mod markets;
+#[cfg(test)]
 mod runs;
 #[cfg(test)]
 mod solved_files;
