@@ -1,3 +1,5 @@
 pub mod Broken
 pub mod Trees
 pub mod Faults
+pub mod Dictionaries
+pub mod Founds

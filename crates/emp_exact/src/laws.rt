@@ -1,5 +1,5 @@
 //! The laws of what a file and a request determine.
-ghost use Rattle.emp_exact.specs.Laws.{OneBroken, OneFault};
+ghost use Rattle.emp_exact.specs.Laws.{OneBroken, OneFault, OneEnd};
 
 /// A file has one first broken rule of ownership, memory aside.
 pub fn one_broken()
@@ -9,4 +9,9 @@ pub fn one_broken()
 /// A file that has no row system has one fault, memory aside.
 pub fn one_fault()
     ensures { OneFault }
+{}
+
+/// The search of a row system with so many units ends in one way, memory aside: with one certificate, or with one fault.
+pub fn one_end()
+    ensures { OneEnd }
 {}
