@@ -3,3 +3,5 @@ pub mod Trees
 pub mod Faults
 pub mod Dictionaries
 pub mod Founds
+pub mod Fillings
+pub mod Answering

@@ -1,5 +1,5 @@
 //! The laws of what a file and a request determine.
-ghost use Rattle.emp_exact.specs.Laws.{OneBroken, OneFault, OneEnd};
+ghost use Rattle.emp_exact.specs.Laws.{OneBroken, OneFault, OneEnd, OneFilling, OneAnswer};
 
 /// A file has one first broken rule of ownership, memory aside.
 pub fn one_broken()
@@ -14,4 +14,14 @@ pub fn one_fault()
 /// The search of a row system with so many units ends in one way, memory aside: with one certificate, or with one fault.
 pub fn one_end()
     ensures { OneEnd }
+{}
+
+/// The way back of a point gives one list of values, or one first wide value.
+pub fn one_filling()
+    ensures { OneFilling }
+{}
+
+/// Two outcomes that `solve` may have for the same file and the same request are the same outcome.
+pub fn one_answer()
+    ensures { OneAnswer }
 {}
