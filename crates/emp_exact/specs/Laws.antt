@@ -32,11 +32,13 @@ OneBroken = (m : Model) (a : Annot) (f g : OwnFault) → f ≢ OwnWords.NoMemory
 abbrev pub OneFault : Type 0
 OneFault = (m : Model) (a : Annot) (f g : StateFault) → f ≢ StateWords.NoMemory → g ≢ StateWords.NoMemory → StateGives m a (Err f) → StateGives m a (Err g) → f ≡ g
 
--- the search of a row system with so many units ends with one certificate, work and nodes, or with one fault
+-- the search of a row system with so many units ends with one certificate, work and number of nodes, or with one fault, but for the want
+-- of memory
 abbrev pub OneEnd : Type 0
 OneEnd = (s : RowSystem) (limit : ℕ) (r t : Result Found WalkFault) → r ≢ Err WalkWords.NoMemory → t ≢ Err WalkWords.NoMemory → CertGives s limit r → CertGives s limit t → r ≡ t
 
--- the numbers of the variables that are left have one list of values of all variables, or one first value that is wide
+-- the values of the variables that are left, one for each, give one list of values of all variables, or one first value that is wide, but
+-- for the want of memory
 abbrev pub OneFilling : Type 0
 OneFilling = (m : Model) (a : Annot) (pr : AgentProblem) (values : List Frac) (r t : Result (List Frac) FillFault) → IsClassFile m a → IsProblemOf m a pr → length values ≡ length pr.variables → r ≢ Err FillWords.NoMemory → t ≢ Err FillWords.NoMemory → FillGives m a pr values r → FillGives m a pr values t → r ≡ t
 

@@ -16,7 +16,7 @@ pub fn one_end()
     ensures { OneEnd }
 {}
 
-/// The way back of a point gives one list of values, or one first wide value.
+/// The way back of a point gives one list of values, or one first wide value, memory aside.
 pub fn one_filling()
     ensures { OneFilling }
 {}
