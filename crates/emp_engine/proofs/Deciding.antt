@@ -1,10 +1,10 @@
 -- What `solve` answers over an accepted pair.
-use Rattle.std.proofs.Common.{◌≡◌, ◌≢◌, ℕ, ◌⊎◌, inl, inr, true, List, [], ◌∷◌, refl, sym, ap, subst, ◌∙◌}
+use Rattle.std.proofs.Common.{◌≡◌, ◌≢◌, ℕ, ◌⊎◌, inl, inr, true, List, refl, sym, ap, ◌∙◌}
 use Rattle.emp_desk.specs.Desk.{Contents}
 use Rattle.emp_ast.specs.declared.model.Model.{Model}
 use Rattle.emp_ast.specs.declared.annot.Annot.{Annot}
 use Rattle.emp_command.specs.declared.words.Verb.TheVariants.{Solve, Check, Print, Migrate}
-use Rattle.emp_command.specs.Words.{Asked, Asks}
+use Rattle.emp_command.specs.Words.{Asked}
 use Rattle.emp_command.specs.Course.{Outcome}
 use Rattle.emp_poly.specs.declared.tree.PolyFault.TheVariants as PolyWords
 use Rattle.emp_walk.specs.declared.fault.WalkFault.{WalkFault}
@@ -18,8 +18,9 @@ use Rattle.emp_solution.specs.declared.state.StateFault.TheVariants as StateWord
 use Rattle.emp_accepted.specs.Accepted.{IsAcceptedPair}
 use Rattle.emp_accepted.specs.Laws.{IsWideFault}
 use Rattle.emp_accepted.proofs.Faults.{accepted_are_stated, accepted_break_none}
+use Rattle.emp_exact.proofs.Answering.{one_answer}
 use Rattle.emp_answers.specs.Answers.{state_status, IsNamedFault, Refuses, bad_owner, unstated, walk_status, ReportOf, Solves, refused, unfinished, unfilled, too_long, answered, Does, prints, solves, checks, migrates}
-use Rattle.emp_engine.specs.Run.{IsSolve, IsDone, is_decision, IsDecided, NamesTexts}
+use Rattle.emp_engine.specs.Run.{IsSolve, IsDone, is_decision, IsDecided}
 use Rattle.emp_engine.proofs.Verbs.{solve_verb}
 use Rattle.emp_engine.proofs.Headline.{not_verbs, print_not, check_not, migrate_not}
 
@@ -77,6 +78,7 @@ module _ (m : Model) (a : Annot) (pair : IsAcceptedPair m a) where
         asked = d.asked;
         outcome = d.outcome;
         solves = h;
+        only = λ o k. one_answer m a d.request o d.outcome k h;
         refused = λ r. sym d.is ∙ refuses_wide d.outcome r;
         is = d.is;
         decision = decides d.outcome.status end (sym d.is) (solves_decides d.request d.outcome h);

@@ -1,16 +1,14 @@
 -- What `check` answers over a certificate that the program found.
-use Rattle.std.proofs.Common.{◌≡◌, ℕ, ◌⊎◌, inl, inr, true, List, [], ◌∷◌, ◌++◌, map, codes, Ok, refl, sym, ap, subst, ◌∙◌}
-use Rattle.emp_desk.specs.Desk.{Contents, Says}
+use Rattle.std.proofs.Common.{◌≡◌, ℕ, ◌⊎◌, inl, inr, true, List, [], ◌∷◌, map, codes, refl, sym, ap, subst, ◌∙◌}
+use Rattle.emp_desk.specs.Desk.{Contents}
 use Rattle.emp_command.specs.declared.words.Verb.TheVariants.{Solve, Check, Print, Migrate}
 use Rattle.emp_command.specs.Words.{Asked, Asks, solve, check, print, make, migrate, pieces}
 use Rattle.emp_command.specs.Course.{Outcome, refusal}
-use Rattle.emp_ast.specs.declared.model.Model.{Model}
-use Rattle.emp_ast.specs.declared.annot.Annot.{Annot}
 use Rattle.emp_cert_text.specs.Text.{cert_text}
 use Rattle.emp_cert_lines.specs.CertLines.{accepted_line, sum_line}
 use Rattle.emp_answers.specs.Answers.{saying, Checks, Does, prints, solves, checks, migrates, is_built_for, is_built}
 use Rattle.emp_due.proofs.Owning.{own_passes}
-use Rattle.emp_engine.specs.Run.{IsCheck, HasVerb, TextsSay, HoldsOwn, Passes, NamesTexts, IsAnswered}
+use Rattle.emp_engine.specs.Run.{IsCheck, HoldsOwn, Passes, NamesTexts, IsAnswered}
 use Rattle.emp_engine.proofs.Headline.{not_verbs, said_alone}
 use Rattle.emp_engine.proofs.Verbs.{check_verb, other_words}
 use Rattle.emp_engine.proofs.Clauses.{print_check, solve_check, migrate_check}

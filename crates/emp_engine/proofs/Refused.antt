@@ -1,12 +1,12 @@
 -- What was said and stored after a refusal.
-use Rattle.std.proofs.Common.{◌≡◌, ◌≢◌, ℕ, ◌⊎◌, inl, inr, true, false, List, [], ◌∷◌, ◌++◌, map, Option, Some, refl, sym, ap, subst, ◌∙◌}
+use Rattle.std.proofs.Common.{◌≡◌, ◌≢◌, ℕ, inl, inr, true, false, List, [], ◌∷◌, ◌++◌, map, Option, Some, refl, sym, ap, ◌∙◌}
 use Rattle.std.proofs.lemmas.Bool.{false≢true}
 use Rattle.std.proofs.lemmas.List.{append-nil}
-use Rattle.emp_desk.specs.Desk.{Place, Contents, IsPrefix, KeepsAll, Says, SaysPrefix}
+use Rattle.emp_desk.specs.Desk.{Place, Contents, KeepsAll, Says, SaysPrefix}
 use Rattle.emp_ast.specs.declared.model.Model.{Model}
 use Rattle.emp_ast.specs.declared.annot.Annot.{Annot}
 use Rattle.emp_command.specs.Words.{Asked}
-use Rattle.emp_command.specs.Course.{Outcome, refusal, IsDue, bad_words, bad_work, bad_firms, unread, too_long, answered, no_memory, IsCut, Delivers, whole, unsaid, unstored, StoresAll, NeedsNoMemory, Runs, delivered, cut_short}
+use Rattle.emp_command.specs.Course.{Outcome, refusal, IsDue, bad_words, bad_work, bad_firms, unread, too_long, answered, no_memory, IsCut, Delivers, whole, unsaid, unstored, StoresAll, Runs, delivered, cut_short}
 use Rattle.emp_ast.specs.declared.tree.Place.{Place as TextPlace}
 use Rattle.emp_lex.specs.declared.token.Token.{Token}
 use Rattle.emp_lex.specs.declared.fault.LexFault.{LexFault}
@@ -20,7 +20,6 @@ use Rattle.info_read.specs.declared.fault.InfoFault.{InfoFault}
 use Rattle.info_read.specs.declared.fault.InfoFault.TheVariants as InfoWords
 use Rattle.emp_owner.specs.declared.owned.OwnFault.{OwnFault}
 use Rattle.emp_owner.specs.declared.owned.OwnFault.TheVariants as OwnWords
-use Rattle.emp_poly.specs.declared.tree.PolyFault.{PolyFault}
 use Rattle.emp_poly.specs.declared.tree.PolyFault.TheVariants as PolyWords
 use Rattle.emp_cert_text.specs.declared.read.CertFault.{CertFault}
 use Rattle.emp_cert_text.specs.declared.read.CertFault.TheVariants as CertWords

@@ -9,7 +9,7 @@ use Rattle.emp_command.specs.Words.{Asked}
 use Rattle.emp_command.specs.Course.{Outcome, StoresAll}
 use Rattle.emp_answers.specs.Answers.{is_built_for, is_built, Answers, unbuilt, bad_model, bad_info, done, Does, prints, solves, checks, migrates}
 use Rattle.emp_makes.specs.Makes.{summary, Saves, Makes}
-use Rattle.emp_makes.proofs.Ends.{makes_end, made_shows}
+use Rattle.emp_makes.proofs.Ends.{made_shows}
 use Rattle.emp_engine.specs.Run.{IsMake, IsAnswer, over_texts, market, IsAnswered, HoldsMarket, ShowsMarket}
 use Rattle.emp_engine.proofs.Verbs.{make_verb}
 use Rattle.emp_engine.proofs.Saying.{market_files}

@@ -310,12 +310,14 @@ DoesWhole words status before after = (m : Model) (a : Annot) → IsPlain words 
 abbrev pub is_decision : ℕ → Bool
 is_decision s = list_any (λ k. nat_eq k s) (0 ∷ 1 ∷ 2 ∷ 19 ∷ 20 ∷ 24 ∷ [])
 
--- what `solve` answers over an accepted pair; before the search there is no refusal but that a number is wide
+-- what `solve` answers over an accepted pair: the one outcome that it may have; before the search there is no refusal but that a number is
+-- wide
 pub record IsDecided (words : List (List ℕ)) (m : Model) (a : Annot) (before after : Contents) (status : ℕ) : Type 0 where
   pub request : Asked
   pub asked : Asks words request
   pub outcome : Outcome
   pub solves : Solves m a request outcome
+  pub only : (o : Outcome) → Solves m a request o → o ≡ outcome
   pub refused : Refuses m a outcome → status ≡ 19
   pub is : outcome.status ≡ status
   pub decision : is_decision status ≡ true
