@@ -9,15 +9,6 @@ use Rattle.emp_dict.specs.declared.label.Mark.{Mark}
 use Rattle.emp_dict.specs.declared.label.Mark.TheVariants.{Unasked}
 use Rattle.emp_dict.specs.Dictionary.{bases_from, quantities_from, line_of}
 
--- ---- copies
-pub copy_more : (out ls : List Line) (i : ℕ) (x l : Line) → out ++ drop i ls ≡ ls → i < length ls → x ≡ get_or ls i x → l ≡ x → (out ++ l ∷ []) ++ drop (i + 1) ls ≡ ls
-copy_more out ls i x l e h k q = append_assoc out (l ∷ []) (drop (i + 1) ls) ∙ (ap (λ y. out ++ y ∷ drop (i + 1) ls) (q ∙ k) ∙ (ap (λ r. out ++ r) (sym (drop_more ls i x h)) ∙ e))
-
-pub copy_all : (out ls : List Line) (i : ℕ) → out ++ drop i ls ≡ ls → length ls ≤ i → out ≡ ls
-copy_all out ls i e h = sym (append-nil out) ∙ (ap (λ r. out ++ r) (sym (drop_all i ls h)) ∙ e)
-
-pub ruleset copying = (copy_more, copy_all)
-
 -- ---- labels and marks
 bases_last : (at n : ℕ) → bases_from at (suc n) ≡ bases_from at n ++ Base (at + n) ∷ []
 bases_last at zero = rw (add-zero at) refl

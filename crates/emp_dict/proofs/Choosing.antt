@@ -1,5 +1,5 @@
 -- What the code of the choice finds.
-use Rattle.std.proofs.Common.{◌≡◌, ◌≢◌, ◌⊎◌, inl, inr, ℕ, zero, suc, ◌+◌, ◌<◌, ℤ, pos, negsuc, neg_ℤ, ◌*ℤ◌, Bool, true, false, ◌&&◌, length, Option, Some, None, arith, refl, sym, ap, subst, ◌∙◌}
+use Rattle.std.proofs.Common.{◌≡◌, ◌≢◌, ◌⊎◌, inl, inr, ℕ, zero, suc, ◌+◌, ◌<◌, ℤ, pos, negsuc, neg_ℤ, ◌*ℤ◌, Bool, true, false, cond, ◌&&◌, length, Option, Some, None, arith, refl, sym, ap, subst, ◌∙◌}
 use Rattle.std.specs.Prelude.{nat_eq}
 use Rattle.std.proofs.lemmas.Bool.{eqb-true}
 use Rattle.std.proofs.lemmas.Int.{ints}
@@ -8,10 +8,12 @@ use Rattle.emp_algebra.proofs.Laws.{one-*ℤ, neg_ℤ-*ℤ}
 use Rattle.emp_turns.specs.Choice.{Way, Up, Down, Mark, Free, Unasked, Required, Fixed, toward}
 use Rattle.emp_turns.specs.Chooses.{Entry as TurnEntry, way_of, is_negative, is_required, first_column, nearest_row, better_row}
 use Rattle.emp_turns.proofs.Chooser.{FirstOf, first_column_is}
+use Rattle.emp_line.specs.Pivot.{is_zero}
+use Rattle.emp_line.specs.Indexed.{has_cell}
 use Rattle.emp_dict.specs.declared.label.Aim.{Aim}
 use Rattle.emp_dict.specs.declared.label.Choice.TheVariants.{Stop, Exchange, Ray}
 use Rattle.emp_dict.specs.declared.choose.Entry.{Entry}
-use Rattle.emp_dict.specs.Dictionary.{Dictionary, cell_at, row_label, column_label}
+use Rattle.emp_dict.specs.Dictionary.{Dictionary, line_at, cell_at, row_label, column_label}
 use Rattle.emp_dict.specs.Chosen.{aimed_row, aimed_way, aim_stops, turn_aim, layout_of, mark_by_index, way_by, is_up, entering, leaving, chosen, by_entering, by_leaving, index_in}
 use Rattle.emp_dict.specs.Places.{entry_of, freedom_of, is_positive, way_for, opening_at, stopping_at}
 use Rattle.emp_dict.proofs.Labels.{or_cases}
@@ -91,3 +93,16 @@ chosen_exchange d a e r p q = ap (by_leaving (entry_of e)) q ∙ ap (by_entering
 -- one more row
 pub nearest_next : (d : Dictionary) (a : Aim) (j : ℕ) (g : Way) (i : ℕ) → better_row (layout_of d) j i (stopping_at d a j g i) (nearest_row (mark_by_index d) (turn_aim d a) (layout_of d) (aimed_row d a) j g i) ≡ nearest_row (mark_by_index d) (turn_aim d a) (layout_of d) (aimed_row d a) j g (i + 1)
 nearest_next d a j g i = let e : suc i ≡ i + 1 = omega arith in ap (nearest_row (mark_by_index d) (turn_aim d a) (layout_of d) (aimed_row d a) j g) e
+
+-- a row with no cell in the column does not stop it
+pub passed_by : (d : Dictionary) (a : Aim) (j : ℕ) (g : Way) (i : ℕ) (best : Option ℕ) (h : Bool) → opening_at d a j ≡ Some g → h ≡ has_cell (line_at d i) j → h ≡ false → best ≡ better_row (layout_of d) j i (stopping_at d a j g i) best
+passed_by d a j g i best h o e f = go (stopping_at d a j g i) refl
+  where
+    none : (z : ℤ) → cond (is_zero z) false true ≡ false → z ≡ pos 0
+    none (pos zero) e = refl
+    none (pos (suc n)) e = cc
+    none (negsuc n) e = cc
+
+    go : (b : Bool) → stopping_at d a j g i ≡ b → best ≡ better_row (layout_of d) j i (stopping_at d a j g i) best
+    go true s = absurd (stopping_cell d a j g i o s (none (cell_at d i j) (sym e ∙ f)))
+    go false s = ap (λ b. better_row (layout_of d) j i b best) (sym s)

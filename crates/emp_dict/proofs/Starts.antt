@@ -281,3 +281,9 @@ parts_sound base qs kinds pairs o n slice lines rows columns marks h es en el er
     let c : marks ≡ replicate (length qs) Unasked = em ∙ ap (λ k. replicate k Unasked) en in
     let q : started base qs o ≡ record { lines = lines; rows = rows; columns = columns; marks = marks } = λ i. record { lines = sym a i; rows = sym b i; columns = sym ec i; marks = sym c i } in
     subst IsSound q (start_sound base qs o h.few_variables h.few_quantities h.rows h.objective_row)
+
+-- the lines at the start have a cell for each base variable
+pub start_widths : (base : ℕ) (qs : List Affine) (kinds : List Kind) (pairs : List (ℕ × ℕ)) (o : Option Affine) (slice : List Affine) (lines : List Line) → IsSystem base qs kinds pairs o → slice ≡ qs → lines ≡ map line_of slice ++ objective_lines o → (i : ℕ) → i < length lines → length (get_or lines i no_line).cells ≡ base
+start_widths base qs kinds pairs o slice lines h es el =
+    let a : map line_of qs ++ objective_lines o ≡ lines = sym (el ∙ ap (λ xs. map line_of xs ++ objective_lines o) es) in
+    subst (λ (ls : List Line). (i : ℕ) → i < length ls → length (get_or ls i no_line).cells ≡ base) a (λ i b. ((start_sound base qs o h.few_variables h.few_quantities h.rows h.objective_row).lines i no_line b).width ∙ length-bases 1 base)

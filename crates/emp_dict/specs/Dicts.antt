@@ -5,7 +5,7 @@ use Rattle.emp_dict.specs.declared.dict.Dict.{Dict}
 use Rattle.emp_dict.specs.Dictionary.{Dictionary, exchanged}
 
 abbrev pub dictionary_of : Dict → Dictionary
-dictionary_of d = record { lines = d.lines; rows = d.rows; columns = d.columns; marks = d.marks }
+dictionary_of d = record { lines = d.table; rows = d.rows; columns = d.columns; marks = d.marks }
 
 -- how many pivots room was made for
 abbrev pub spare_of : Dict → ℕ

@@ -210,6 +210,9 @@ impl Dict {
         ensures value { result ≡ better_row (layout_of (dictionary_of self.now)) entry.column row (stopping_at (dictionary_of self.now) aim entry.column (way_by entry.up) row) best }
         ensures kept { IfSome result (HasCell (dictionary_of self.now) entry.column) }
     {
+        if !self.has_cell(row, entry.column) {
+            return best;
+        }
         if !self.stops(aim, entry, row) {
             return best;
         }

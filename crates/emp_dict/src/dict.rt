@@ -1,13 +1,12 @@
 //! A dictionary, its parts, and its pivot.
 ghost use Rattle.std.specs.Prelude.{◌≡◌, ◌≢◌, ◌<◌, ◌≤◌, ◌+◌, pos, length, OnOk, OnErr, IfOk};
+ghost use Rattle.emp_line.specs.Indexed.{has_cell};
 ghost use Rattle.emp_dict.specs.Dictionary.{IsSound, line_at, cell_at, row_label, column_label, mark_at, row_of, marked, started};
 ghost use Rattle.emp_dict.specs.declared.label.Label.TheVariants.{Objective};
 
-use crate::copying::copy_lines;
 use crate::label::{Label, Mark};
-use crate::start::{bases, start_labels, start_lines, unasked};
-use emp_line::line::Line;
-use emp_line::pivot::pivot_lines;
+use crate::start::{bases, start_labels, start_table, unasked};
+use emp_line::table::Table;
 use emp_list::memory::NoMemory;
 use emp_list::seq::Seq;
 use emp_num::exact::Wide;
@@ -19,14 +18,12 @@ use std::alloc::Global;
 /// What it stands for is `dictionary_of` in `specs/Dicts.antt`. At its point all columns are 0.
 #[derive(Drop)]
 pub struct Dict {
-    lines: Seq<Line>,
+    table: Table,
     rows: Seq<Label>,
     columns: Seq<Label>,
     marks: Seq<Mark>,
-    /// Its place is lent to a row while the others change.
-    place: Line,
     room: u64,
-    pub ghost sound: { IsSound (record { lines = lines; rows = rows; columns = columns; marks = marks }) },
+    pub ghost sound: { IsSound (record { lines = table; rows = rows; columns = columns; marks = marks }) },
 }
 
 impl Dict {
@@ -40,15 +37,10 @@ impl Dict {
     {
         let count = system.quantities.len();
         Ok(Dict {
-            lines: start_lines(alloc, system.quantities.as_slice(), &system.objective)?,
+            table: start_table(alloc, system)?,
             rows: start_labels(alloc, count, &system.objective)?,
             columns: bases(alloc, system.base as usize)?,
             marks: unasked(alloc, count)?,
-            place: Line {
-                denom: 1,
-                constant: 0,
-                cells: Seq::new(alloc),
-            },
             room: 0,
         })
     }
@@ -59,15 +51,10 @@ impl Dict {
         ensures spare { IfOk result (λ copy. spare_of copy ≡ spare_of self.now) }
     {
         Ok(Dict {
-            lines: copy_lines(alloc, self.lines.as_slice())?,
+            table: self.table.copy(alloc)?,
             rows: self.rows.copy(alloc)?,
             columns: self.columns.copy(alloc)?,
             marks: self.marks.copy(alloc)?,
-            place: Line {
-                denom: 1,
-                constant: 0,
-                cells: Seq::new(alloc),
-            },
             room: self.room,
         })
     }
@@ -98,7 +85,7 @@ impl Dict {
         requires { row < length (dictionary_of self.now).rows }
         ensures { result ≡ (line_at (dictionary_of self.now) row).denom }
     {
-        self.lines.as_slice()[row].denom
+        self.table.denom(row)
     }
 
     /// The constant of a row.
@@ -106,7 +93,7 @@ impl Dict {
         requires { row < length (dictionary_of self.now).rows }
         ensures { result ≡ (line_at (dictionary_of self.now) row).constant }
     {
-        self.lines.as_slice()[row].constant
+        self.table.constant(row)
     }
 
     /// The cell of a row in a column.
@@ -115,7 +102,16 @@ impl Dict {
         requires column { column < length (dictionary_of self.now).columns }
         ensures { result ≡ cell_at (dictionary_of self.now) row column }
     {
-        self.lines.as_slice()[row].cells.as_slice()[column]
+        self.table.cell(row, column)
+    }
+
+    /// Whether a row has a cell other than 0 in a column.
+    pub fn has_cell(&self, row: usize, column: usize) -> bool
+        requires row { row < length (dictionary_of self.now).rows }
+        requires column { column < length (dictionary_of self.now).columns }
+        ensures { result ≡ has_cell (line_at (dictionary_of self.now) row) column }
+    {
+        self.table.has(row, column)
     }
 
     /// What a row tells.
@@ -188,7 +184,7 @@ impl Dict {
         requires room { 0 < spare_of self.old }
         ensures { PivotGives row column self.old self.new result }
     {
-        pivot_lines(&mut self.lines, &mut self.place, row, column)?;
+        self.table.pivot(row, column)?;
         let mut label = self.rows.as_slice()[row];
         self.columns.swap_in(column, &mut label);
         self.rows.set(row, label);

@@ -2,7 +2,6 @@
 #![tactic(auto)]
 
 pub mod choose;
-pub mod copying;
 pub mod dict;
 pub mod label;
 pub mod laws;

@@ -5,9 +5,12 @@ ghost use Rattle.emp_dict.specs.declared.label.Mark.TheVariants.{Unasked};
 
 use crate::label::{Label, Mark};
 use emp_line::line::Line;
+use emp_line::row::Row;
+use emp_line::table::Table;
 use emp_list::memory::NoMemory;
 use emp_list::seq::Seq;
 use emp_rows::affine::Affine;
+use emp_rows::system::RowSystem;
 use std::alloc::Global;
 
 /// The base variables from 1 up to a count.
@@ -48,8 +51,8 @@ pub fn unasked(alloc: Global, count: usize) -> Result<Seq<Mark>, NoMemory>
     Ok(out)
 }
 
-/// An affine quantity as a line.
-pub fn line_of(alloc: Global, row: &Affine) -> Result<Line, NoMemory>
+/// An affine quantity as a whole line.
+fn line_of(alloc: Global, row: &Affine) -> Result<Line, NoMemory>
     ensures { IfOk result (λ line. line ≡ line_of row.now) }
 {
     Ok(Line {
@@ -59,31 +62,47 @@ pub fn line_of(alloc: Global, row: &Affine) -> Result<Line, NoMemory>
     })
 }
 
+/// An affine quantity as a line.
+fn row_of(alloc: Global, row: &Affine) -> Result<Row, NoMemory>
+    ensures { IfOk result (λ line. line ≡ line_of row.now) }
+{
+    let line = line_of(alloc, row)?;
+    Row::of(alloc, &line)
+}
+
 /// Affine quantities as lines.
 #[tactic(auto, using(crate::proofs::Built::lining))]
-fn lines_of(alloc: Global, rows: &[Affine]) -> Result<Seq<Line>, NoMemory>
+fn rows_of(alloc: Global, rows: &[Affine]) -> Result<Seq<Row>, NoMemory>
     ensures { IfOk result (λ lines. lines ≡ map line_of rows.now) }
 {
     let mut out = Seq::new(alloc);
     for at in 0..rows.len() {
-        out.push(line_of(alloc, &rows[at])?)?;
+        out.push(row_of(alloc, &rows[at])?)?;
     }
     Ok(out)
 }
 
 /// The lines at the start: one for each quantity, and a last one for the objective where there is one.
-pub fn start_lines(
+fn start_lines(
     alloc: Global,
     rows: &[Affine],
     objective: &Option<Affine>,
-) -> Result<Seq<Line>, NoMemory>
+) -> Result<Seq<Row>, NoMemory>
     ensures { IfOk result (λ lines. lines ≡ map line_of rows.now ++ objective_lines objective.now) }
 {
-    let mut out = lines_of(alloc, rows)?;
+    let mut out = rows_of(alloc, rows)?;
     if let Some(row) = objective {
-        out.push(line_of(alloc, row)?)?;
+        out.push(row_of(alloc, row)?)?;
     }
     Ok(out)
+}
+
+/// The table at the start.
+pub fn start_table(alloc: Global, system: &RowSystem) -> Result<Table, NoMemory>
+    ensures { IfOk result (λ table. table ≡ map line_of system.now.quantities ++ objective_lines system.now.objective) }
+{
+    let lines = start_lines(alloc, system.quantities.as_slice(), &system.objective)?;
+    Table::of(alloc, system.base as usize, lines)
 }
 
 /// What they tell: so many quantities, and the objective where there is one.

@@ -8,7 +8,7 @@ use Rattle.emp_line.specs.Pivot.{is_zero, factors, combined, combination_wide, r
 use Rattle.emp_line.specs.Lines.{IsLine, line_after}
 use Rattle.emp_line.proofs.Sound.{combined_sound, reduced_sound, own_positive}
 
-moved_sound : (w : ℕ) (t : Line) (j : ℕ) (l x : Line) → IsLine w l → IsLine w t → moved t j l ≡ Some x → IsLine w x
+pub moved_sound : (w : ℕ) (t : Line) (j : ℕ) (l x : Line) → IsLine w l → IsLine w t → moved t j l ≡ Some x → IsLine w x
 moved_sound w t j l x s r e = go (is_zero (cell l.cells j)) e
   where
     whole : (b : Bool) → combination_wide (factors t.denom (cell l.cells j)) l t j ≡ b → cond b None (Some (reduced (combined (factors t.denom (cell l.cells j)) l t j))) ≡ Some x → IsLine w x

@@ -10,7 +10,11 @@ use Rattle.emp_algebra.specs.Vector.{cell}
 use Rattle.emp_num.specs.Gcd.{gcd_of, content_from, content_of}
 use Rattle.emp_num.proofs.Gcds.{quot_exact}
 use Rattle.emp_num.proofs.GcdLaws.{content_divides}
-use Rattle.emp_num.proofs.Divisors.{IsGcd-gcd_of, gcd_of_zero, content_from-more, content_from-none}
+use Rattle.std.specs.Int.{IsGcd}
+use Rattle.std.proofs.lemmas.List.{drop_more, drop_all}
+use Rattle.emp_num.proofs.Divisors.{IsGcd-gcd_of, gcd_of_is, gcd_of_zero}
+use Rattle.emp_line.specs.declared.cells.Cell.{Cell}
+use Rattle.emp_line.specs.Sparse.{no_cell, numbers}
 use Rattle.emp_line.specs.declared.line.Line.{Line}
 use Rattle.emp_line.specs.Pivot.{line_content, quotients, reduced}
 use Rattle.emp_line.specs.Lines.{IsLine}
@@ -21,7 +25,15 @@ use Rattle.emp_line.specs.Place.{divided_line}
 pub content_one : (zs : List ℤ) → content_from 1 zs ≡ 1
 content_one zs = eq-one_of_dvd-one (content_divides 1 zs).first
 
-pub ruleset folding = (to_z-of_z, content_from-more, content_from-none, content_one)
+-- one more number
+pub content_next : (g h : ℕ) (cs : List Cell) (k : ℕ) → k < length cs → IsGcd g (unsigned_abs (get_or cs k no_cell).number) h → content_from h (numbers (drop (k + 1) cs)) ≡ content_from g (numbers (drop k cs))
+content_next g h cs k b d =
+    ap (λ m. content_from m (numbers (drop (k + 1) cs))) (gcd_of_is g (unsigned_abs (get_or cs k no_cell).number) h d) ∙ ap (λ ls. content_from g (numbers ls)) (sym (drop_more cs k no_cell b))
+
+pub content_end : (g : ℕ) (cs : List Cell) (k t : ℕ) → content_from g (numbers (drop k cs)) ≡ t → length cs ≤ k → g ≡ t
+content_end g cs k t e h = sym (ap (λ ls. content_from g (numbers ls)) (drop_all k cs h)) ∙ e
+
+pub ruleset folding = (to_z-of_z, content_end, content_one)
 
 -- what divides the start and all numbers divides their content
 pub content_greatest : (n g : ℕ) (zs : List ℤ) → n ∣ g → All (λ z. n ∣ unsigned_abs z) zs → n ∣ content_from g zs

@@ -1,15 +1,14 @@
 -- Lines whose numbers are below 2^62 form no wide number.
-use Rattle.std.proofs.Common.{◌≡◌, ◌≢◌, ℕ, zero, suc, ◌+◌, ◌*◌, ◌<◌, ◌≤◌, ◌^◌, ℤ, pos, negsuc, neg_ℤ, ◌+ℤ◌, ◌*ℤ◌, ◌<ℤ◌, unsigned_abs, int_div, Bool, true, false, cond, ◌||◌, List, [], ◌∷◌, set, length, arith, refl, ap, sym, subst, ◌∙◌, to_z-of_z}
+use Rattle.std.proofs.Common.{◌≡◌, ◌≢◌, ℕ, ◌*◌, ◌<◌, ◌≤◌, ◌^◌, ℤ, pos, ◌+ℤ◌, ◌*ℤ◌, unsigned_abs, int_div, Bool, true, false, cond, ◌||◌, List, [], ◌∷◌, set, length, arith, refl, ap, sym, subst, ◌∙◌}
 use Rattle.std.specs.List.{All}
 use Rattle.std.proofs.lemmas.Int.{ints, unsigned_abs-mul}
-use Rattle.std.proofs.lemmas.List.Elements.{All-nil, All-cons, All-head, All-tail, All-set, All-get_or}
-use Rattle.emp_algebra.specs.Vector.{cell, scale}
-use Rattle.emp_algebra.proofs.Laws.{one-*ℤ, neg_ℤ-*ℤ}
+use Rattle.std.proofs.lemmas.List.Elements.{All-head, All-tail, All-set, All-get_or}
+use Rattle.emp_algebra.specs.Vector.{cell}
 use Rattle.emp_num.specs.Exact.{IsNarrow}
 use Rattle.emp_num.specs.Gcd.{gcd_of}
 use Rattle.emp_line.specs.declared.line.Line.{Line}
-use Rattle.emp_line.specs.Pivot.{sign, is_zero, Factors, factors, turned, step_wide, steps_wide, combination_wide}
-use Rattle.emp_line.proofs.Steps.{none_wide, zero_yes, zero_no}
+use Rattle.emp_line.specs.Pivot.{Factors, factors, step_wide, steps_wide, combination_wide}
+use Rattle.emp_line.proofs.Steps.{none_wide, zero_no}
 use Rattle.std.proofs.Math.Nat.{mul-le-mul}
 use Rattle.emp_line.proofs.Sound.{quotient_small}
 use Rattle.emp_line.proofs.Joins.{narrow_all}
@@ -39,28 +38,8 @@ small_steps f (a ∷ as') (b ∷ bs) h k m n =
 quotient_is_small : (a : ℤ) (g : ℕ) → IsSmall a → IsSmall (int_div a (pos g))
 quotient_is_small a g h = let e = quotient_small a g in omega arith
 
--- ---- the turned line
-sign_small : (a z : ℤ) → IsSmall z → IsSmall (sign a *ℤ z)
-sign_small (pos zero) z h = omega (arith, ints)
-sign_small (pos (suc n)) z h = subst IsSmall (sym (one-*ℤ z)) h
-sign_small (negsuc n) z h = let e : negsuc 0 *ℤ z ≡ neg_ℤ z = neg_ℤ-*ℤ (pos 1) z ∙ ap neg_ℤ (one-*ℤ z) in subst IsSmall (sym e) (omega (arith, ints))
-
-against_small : (a z : ℤ) → IsSmall z → IsSmall (neg_ℤ (sign a) *ℤ z)
-against_small a z h = subst IsSmall (sym (neg_ℤ-*ℤ (sign a) z)) (let k = sign_small a z h in omega (arith, ints))
-
-scaled_small : (a : ℤ) (r : List ℤ) → All IsSmall r → All IsSmall (scale (neg_ℤ (sign a)) r)
-scaled_small a [] h = All-nil IsSmall
-scaled_small a (z ∷ r) h = All-cons IsSmall (neg_ℤ (sign a) *ℤ z) (scale (neg_ℤ (sign a)) r) (against_small a z (All-head IsSmall z r h)) (scaled_small a r (All-tail IsSmall z r h))
-
-turned_small : (l : Line) (j : ℕ) → j < length l.cells → IsSmallLine l → IsSmallLine (turned l j)
-turned_small l j h s = record {
-  denom = All-get_or IsSmall l.cells j (pos 0) h s.cells;
-  constant = against_small (cell l.cells j) l.constant s.constant;
-  cells = All-set IsSmall (scale (neg_ℤ (sign (cell l.cells j))) l.cells) j (sign (cell l.cells j) *ℤ l.denom) (sign_small (cell l.cells j) l.denom s.denom) (scaled_small (cell l.cells j) l.cells s.cells);
-}
-
 -- ---- small lines are moved with no wide number
-small_moves : (t l : Line) (j : ℕ) → j < length l.cells → IsSmallLine t → IsSmallLine l → combination_wide (factors t.denom (cell l.cells j)) l t j ≡ false
+pub small_moves : (t l : Line) (j : ℕ) → j < length l.cells → IsSmallLine t → IsSmallLine l → combination_wide (factors t.denom (cell l.cells j)) l t j ≡ false
 small_moves t l j h s r =
     let f = factors t.denom (cell l.cells j) in
     let here : IsSmall (cell l.cells j) = All-get_or IsSmall l.cells j (pos 0) h r.cells in
@@ -69,19 +48,10 @@ small_moves t l j h s r =
     narrow_all f l t j (product_narrow f.own l.denom own r.denom) (small_step f l.constant t.constant own other r.constant s.constant)
     (small_steps f (set l.cells j (pos 0)) t.cells own other (All-set IsSmall l.cells j (pos 0) (omega arith) r.cells) s.cells)
 
-pub still_narrow : (t l : Line) (j : ℕ) → cell l.cells j ≡ pos 0 → false ≡ moved_wide t j l
-still_narrow t l j e = sym (ap (λ b. cond b false (combination_wide (factors t.denom (cell l.cells j)) l t j)) (zero_yes (cell l.cells j) e))
-
-cond_same : (b : Bool) → cond b false false ≡ false
+pub cond_same : (b : Bool) → cond b false false ≡ false
 cond_same true = refl
 cond_same false = refl
-
-pub small_narrow : (p l : Line) (j : ℕ) → j < length p.cells → length p.cells ≡ length l.cells → IsSmallLine p → IsSmallLine l → false ≡ moved_wide (turned p j) j l
-small_narrow p l j h w s r =
-    sym (ap (λ b. cond (is_zero (cell l.cells j)) false b) (small_moves (turned p j) l j (omega arith) (turned_small p j h s) r) ∙ cond_same (is_zero (cell l.cells j)))
 
 pub moved_test : (t l : Line) (j : ℕ) (f : Factors) (w : Bool) → cell l.cells j ≢ pos 0 → f ≡ factors t.denom (cell l.cells j) → w ≡ combination_wide f l t j → w ≡ moved_wide t j l
 moved_test t l j f w n e h =
     h ∙ (ap (λ g. combination_wide g l t j) e ∙ sym (ap (λ b. cond b false (combination_wide (factors t.denom (cell l.cells j)) l t j)) (zero_no (cell l.cells j) n)))
-
-pub ruleset skipping = (to_z-of_z, still_narrow, small_narrow, moved_test)

@@ -1,3 +1,5 @@
 pub mod Pivot
 pub mod Lines
 pub mod Place
+pub mod Sparse
+pub mod Indexed

@@ -1,11 +1,15 @@
 -- What the steps of a pivot in place keep and give.
-use Rattle.std.specs.Prelude.{cond, int_div, ◌≡◌, ℕ, ◌<◌, ◌^◌, ℤ, ◌+ℤ◌, ◌*ℤ◌, Bool, true, false, List, Option, Some, None, Result, Ok, Err, unsigned_abs}
+use Rattle.std.specs.Prelude.{◌≢◌, ◌||◌, nat_eq, [], slice_index_or, ◌+◌, ◌≤◌, ◌∷◌, drop, length, cond, int_div, ◌≡◌, ℕ, ◌<◌, ◌^◌, ℤ, ◌+ℤ◌, ◌*ℤ◌, Bool, true, false, List, Option, Some, None, Result, Ok, Err, unsigned_abs}
 use Rattle.std.specs.List.{All}
 use Rattle.emp_algebra.specs.Vector.{cell, scale, add_rows}
 use Rattle.emp_num.specs.declared.exact.Wide.{Wide}
 use Rattle.emp_line.specs.declared.line.Line.{Line}
 use Rattle.emp_line.specs.Pivot.{quotients, Factors, factors, is_zero, step_wide, combination_wide}
 use Rattle.emp_line.specs.declared.step.Multipliers.{Multipliers}
+use Rattle.emp_line.specs.declared.cells.Cell.{Cell}
+use Rattle.emp_line.specs.declared.pairs.Next.{Next}
+use Rattle.emp_line.specs.Sparse.{no_cell, pairs}
+use Rattle.emp_line.specs.Indexed.{flag}
 
 -- the two multipliers as numbers without bound
 abbrev pub factors_of : Multipliers → Factors
@@ -46,3 +50,31 @@ summed_line f l t = record { denom = f.own *ℤ l.denom; constant = f.own *ℤ l
 -- each number of the line divided, rounded towards 0
 abbrev pub divided_line : Line → ℤ → Line
 divided_line l g = record { denom = int_div l.denom g; constant = int_div l.constant g; cells = quotients l.cells g }
+
+-- the next pair of two lines, cell by cell, and the places of the cells after it
+pub record IsNext (j : ℕ) (as' bs : List Cell) (a b : ℕ) (n : Next) : Type 0 where
+  pub pair : pairs j (drop a as') (drop b bs) ≡ n.pair ∷ pairs j (drop n.own_at as') (drop n.other_at bs)
+  pub own : n.own_at ≤ length as'
+  pub other : n.other_at ≤ length bs
+  pub further : a + b < n.own_at + n.other_at
+
+-- the columns rise
+abbrev pub Rises : List Cell → Type 0
+Rises cs = (i k : ℕ) → i < k → k < length cs → (slice_index_or cs i no_cell).column < (slice_index_or cs k no_cell).column
+
+-- so many cells, and no others, stand before the column
+pub record IsPlace (cs : List Cell) (k p : ℕ) : Type 0 where
+  pub before : (i : ℕ) → i < p → (slice_index_or cs i no_cell).column < k
+  pub behind : (i : ℕ) → p ≤ i → i < length cs → k ≤ (slice_index_or cs i no_cell).column
+
+-- a cell stands in column k
+abbrev pub stands : ℕ → List Cell → Bool
+stands k [] = false
+stands k (c ∷ cs) = nat_eq c.column k || stands k cs
+
+-- line `at` has its flags changed to `value` in the columns of the cells, and no other flag is changed
+pub record MarksCells (cs : List Cell) (at : ℕ) (value : Bool) (old new : List (List Bool)) : Type 0 where
+  pub columns : length new ≡ length old
+  pub sizes : (k : ℕ) → k < length old → length (slice_index_or new k []) ≡ length (slice_index_or old k [])
+  pub others : (k i : ℕ) → i ≢ at → flag new k i ≡ flag old k i
+  pub here : (k : ℕ) → k < length old → flag new k at ≡ cond (stands k cs) value (flag old k at)

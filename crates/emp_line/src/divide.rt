@@ -1,18 +1,13 @@
-//! What the numbers of a line have in common, and the line divided by it in place.
+//! What numbers have in common, and quotients by it.
 ghost use Prim.Native.Nat.{◌∣◌};
-ghost use Rattle.std.specs.Prelude.{◌*ℤ◌, MatchOption, IsTrue, ◌≡◌, ◌<◌, ◌^◌, ◌<ℤ◌, pos, int_div, length, unsigned_abs};
-ghost use Rattle.std.specs.List.{All};
+ghost use Rattle.std.specs.Prelude.{◌*ℤ◌, MatchOption, IsTrue, ◌≡◌, ◌<◌, ◌^◌, ◌<ℤ◌, pos, int_div, length, slice_index_or, unsigned_abs};
 ghost use Rattle.std.specs.Int.{IsGcd};
-ghost use Rattle.emp_algebra.specs.Vector.{cell};
 ghost use Rattle.emp_num.specs.Exact.{IsNarrow};
 ghost use Rattle.emp_num.specs.Gcd.{content_from, gcd_of};
-ghost use Rattle.emp_line.specs.Pivot.{line_content, quotients, reduced};
-ghost use Rattle.emp_line.specs.Lines.{IsLine};
-ghost use Rattle.emp_line.specs.Place.{divided_line};
+ghost use Rattle.emp_line.specs.Sparse.{no_cell, divided, numbers};
 
 use crate::binary::odd_divisor;
-use crate::line::Line;
-use emp_list::seq::Seq;
+use crate::cells::Cell;
 use emp_num::exact::common_divisor;
 
 /// The greatest common divisor of two words, by Euclid's steps.
@@ -127,12 +122,12 @@ fn candidate(divider: Divider, number: i128) -> i64 {
 
 /// The exact quotient of the number at `at`, if it is found at once.
 #[tactic(auto, using(crate::proofs::Exactly::fitting))]
-fn exact_at(divider: Divider, cells: &[i128], at: usize) -> Option<i128>
+fn exact_at(divider: Divider, cells: &[Cell], at: usize) -> Option<i128>
     requires { at < length cells.now }
-    ensures { MatchOption result (Unit {0}) (λ q. q *ℤ pos divider.divisor ≡ cell cells.now at) }
+    ensures { MatchOption result (Unit {0}) (λ q. q *ℤ pos divider.divisor ≡ (slice_index_or cells.now at no_cell).number) }
 {
-    let quotient = candidate(divider, cells[at]) as i128;
-    if divider.divisor < SMALL && quotient * (divider.divisor as i128) == cells[at] {
+    let quotient = candidate(divider, cells[at].number) as i128;
+    if divider.divisor < SMALL && quotient * (divider.divisor as i128) == cells[at].number {
         Some(quotient)
     } else {
         None
@@ -140,9 +135,9 @@ fn exact_at(divider: Divider, cells: &[i128], at: usize) -> Option<i128>
 }
 
 /// Whether the divider is seen at once to divide the number at `at`.
-fn divides_at(divider: Divider, cells: &[i128], at: usize) -> bool
+fn divides_at(divider: Divider, cells: &[Cell], at: usize) -> bool
     requires { at < length cells.now }
-    ensures { IsTrue result → divider.divisor ∣ unsigned_abs (cell cells.now at) }
+    ensures { IsTrue result → divider.divisor ∣ unsigned_abs (slice_index_or cells.now at no_cell).number }
 {
     match exact_at(divider, cells, at) {
         Some(_) => true,
@@ -151,18 +146,18 @@ fn divides_at(divider: Divider, cells: &[i128], at: usize) -> bool
 }
 
 /// What a count and the number at `at` have in common. The number goes first: where the count divides it, one division ends the search.
-fn common_with(total: u128, row: &[i128], at: usize) -> u128
+fn common_with(total: u128, row: &[Cell], at: usize) -> u128
     requires { at < length row.now }
-    ensures { IsGcd total (unsigned_abs (cell row.now at)) result }
+    ensures { IsGcd total (unsigned_abs (slice_index_or row.now at no_cell).number) result }
 {
-    count_divisor(row[at].unsigned_abs(), total)
+    count_divisor(row[at].number.unsigned_abs(), total)
 }
 
 /// The same by dividers.
 #[tactic(auto, using(crate::proofs::Exactly::common))]
-fn common_divider(divider: Divider, row: &[i128], at: usize) -> Divider
+fn common_divider(divider: Divider, row: &[Cell], at: usize) -> Divider
     requires { at < length row.now }
-    ensures { IsGcd divider.divisor (unsigned_abs (cell row.now at)) result.divisor }
+    ensures { IsGcd divider.divisor (unsigned_abs (slice_index_or row.now at no_cell).number) result.divisor }
 {
     if divides_at(divider, row, at) {
         divider
@@ -173,8 +168,8 @@ fn common_divider(divider: Divider, row: &[i128], at: usize) -> Divider
 
 /// The greatest common divisor of a start and of the numbers of a row; at 1 the rest is not looked at.
 #[tactic(auto, using(crate::proofs::Seeds::folding))]
-pub fn content_within(start: u128, row: &[i128]) -> u128
-    ensures { result ≡ content_from start row.now }
+pub fn content_within(start: u128, row: &[Cell]) -> u128
+    ensures { result ≡ content_from start (numbers row.now) }
 {
     let mut divider = divider_for(start);
     for k in 0..row.len() {
@@ -186,87 +181,29 @@ pub fn content_within(start: u128, row: &[i128]) -> u128
     divider.divisor
 }
 
-/// What the denominator and the cell in the column have in common.
-fn seed_of(line: &Line, column: usize) -> u128
-    requires { column < length line.now.cells }
-    ensures { result ≡ gcd_of (unsigned_abs line.now.denom) (unsigned_abs (cell line.now.cells column)) }
-{
-    count_divisor(
-        line.denom.unsigned_abs(),
-        line.cells.as_slice()[column].unsigned_abs(),
-    )
-}
-
-/// What the seed and the constant have in common.
-fn grown(seed: u128, line: &Line) -> u128
-    ensures { result ≡ gcd_of seed (unsigned_abs line.now.constant) }
-{
-    count_divisor(seed, line.constant.unsigned_abs())
-}
-
-/// What all numbers of the line have in common. It is looked for first in the denominator and one column.
-#[tactic(auto, using(crate::proofs::Seeds::seeding))]
-pub fn divisor_of(line: &Line, column: usize) -> u128
-    requires sound { IsLine (length line.now.cells) line.now }
-    requires column { column < length line.now.cells }
-    ensures value { pos result ≡ line_content line.now }
-    ensures positive { 0 < result }
-    ensures narrow { result < 2 ^ 126 }
-{
-    let seed = seed_of(line, column);
-    if seed == 1 {
-        return 1;
-    }
-    content_within(grown(seed, line), line.cells.as_slice())
-}
-
 /// The quotient of a cell by a count, rounded towards 0.
 #[tactic(auto, using(crate::proofs::Exactly::exactly))]
-fn quotient_at(cells: &[i128], at: usize, divider: Divider) -> i128
+fn quotient_at(cells: &[Cell], at: usize, divider: Divider) -> i128
     requires at { at < length cells.now }
     requires positive { 0 < divider.divisor }
     requires narrow { divider.divisor < 2 ^ 126 }
-    ensures { result ≡ int_div (cell cells.now at) (pos divider.divisor) }
+    ensures { result ≡ int_div (slice_index_or cells.now at no_cell).number (pos divider.divisor) }
 {
     match exact_at(divider, cells, at) {
         Some(quotient) => quotient,
-        None => cells[at] / (divider.divisor as i128),
+        None => cells[at].number / (divider.divisor as i128),
     }
 }
 
-/// Each cell divided by a count, in place.
-#[tactic(auto, using(crate::proofs::Mixed::adding))]
-fn divide_cells(cells: &mut Seq<i128>, divider: Divider)
+/// The cell at a place, divided by a count.
+pub fn divided_cell(cells: &[Cell], at: usize, divider: Divider) -> Cell
+    requires at { at < length cells.now }
     requires positive { 0 < divider.divisor }
     requires narrow { divider.divisor < 2 ^ 126 }
-    ensures { cells.new ≡ quotients cells.old (pos divider.divisor) }
+    ensures { result ≡ divided (pos divider.divisor) (slice_index_or cells.now at no_cell) }
 {
-    for k in 0..cells.len() {
-        let part = quotient_at(cells.as_slice(), k, divider);
-        cells.set(k, part);
-    }
-}
-
-/// The line divided by a count, in place.
-fn divide(line: &mut Line, divisor: u128)
-    requires positive { 0 < divisor }
-    requires narrow { divisor < 2 ^ 126 }
-    ensures { line.new ≡ divided_line line.old (pos divisor) }
-{
-    divide_cells(&mut line.cells, divider_for(divisor));
-    line.denom = quotient(line.denom, divisor);
-    line.constant = quotient(line.constant, divisor);
-}
-
-/// The line divided by what its numbers have in common, in place.
-#[tactic(auto, using(crate::proofs::Seeds::reducing))]
-pub fn reduce(line: &mut Line, column: usize)
-    requires sound { IsLine (length line.old.cells) line.old }
-    requires column { column < length line.old.cells }
-    ensures { line.new ≡ reduced line.old }
-{
-    let divisor = divisor_of(line, column);
-    if divisor != 1 {
-        divide(line, divisor);
+    Cell {
+        column: cells[at].column,
+        number: quotient_at(cells, at, divider),
     }
 }

@@ -2,8 +2,12 @@
 #![tactic(auto)]
 
 pub mod binary;
+pub mod cells;
 pub mod divide;
+pub mod fill;
+pub mod index;
 pub mod line;
-pub mod pivot;
+pub mod pairs;
+pub mod row;
 pub mod step;
-pub mod width;
+pub mod table;

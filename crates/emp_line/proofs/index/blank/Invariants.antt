@@ -1,0 +1,5 @@
+use Rattle.std.proofs.Common.{◌≡◌, false, replicate}
+use Rattle.emp_line.proofs.index.blank.Given as goal
+
+abbrev pub invariant-loop-at : goal.invariant-loop-at
+invariant-loop-at l = l.out ≡ replicate l.at (replicate l.lines false)

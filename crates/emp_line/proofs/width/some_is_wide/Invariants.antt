@@ -1,7 +1,0 @@
-use Rattle.std.proofs.Common.{◌≡◌, drop}
-use Rattle.emp_line.specs.Pivot.{turned, pivoted_from}
-use Rattle.emp_line.specs.Place.{is_none}
-use Rattle.emp_line.proofs.width.some_is_wide.Given as goal
-
-abbrev pub invariant-loop-at : goal.invariant-loop-at
-invariant-loop-at l = is_none (pivoted_from l.at (turned l.pivot l.column) l.row l.column (drop l.at l.lines)) ≡ is_none (pivoted_from 0 (turned l.pivot l.column) l.row l.column l.lines)
