@@ -297,6 +297,25 @@ fn finds_points_within_bounds(rt: HostRuntime) -> Result<(), Fail> {
     Ok(())
 }
 
+// Each node and each pivot takes one unit before it is made. Three nodes and two pivots are five units: both children go on from the dictionary
+// that the root ended with. A search that makes the root's pivot again for the second child takes a sixth.
+#[test]
+fn counts_pivots(rt: HostRuntime) -> Result<(), Fail> {
+    let parts = "Positive Variables x, y; Equations f, g; f.. y - 1 =g= 0; g.. x + 1 =g= 0;";
+    let model = model_of_parts(rt.alloc(), parts)?;
+    let texts = (model.as_bytes(), "equilibrium vi f x g y".as_bytes());
+    for (line, status, said) in [
+        ("solve m i --work 1", 20, "error 20: work 1 spent\n"),
+        ("solve m i --work 2", 20, "error 20: work 2 spent\n"),
+        ("solve m i --work 3", 20, "error 20: work 3 spent\n"),
+        ("solve m i --work 4", 20, "error 20: work 4 spent\n"),
+        ("solve m i --work 5", 1, "no equilibrium\nwork 5\nnodes 3\n"),
+    ] {
+        ends(&rt, rt.alloc(), line, texts, status, said.as_bytes())?;
+    }
+    Ok(())
+}
+
 // The text with spaces behind it, up to the size.
 fn padded(alloc: Global, text: &str, size: usize) -> Result<Vec<u8>, Fail> {
     let mut bytes = Vec::from_slice(alloc, text.as_bytes())?;
