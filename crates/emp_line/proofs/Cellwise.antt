@@ -251,5 +251,3 @@ pub spread_skip : (w : ℕ) (cs : List Cell) → IsSparse 0 w cs → spread 0 (w
 spread_skip w cs s =
     let e : w ≡ 0 + w = omega arith in
     ap (λ n. spread 0 n cs) (one_more w) ∙ spread_none 0 w cs (subst (λ m. IsSparse 0 m cs) e s)
-
-pub ruleset probing = (spread_skip, spread_push)

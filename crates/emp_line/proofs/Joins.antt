@@ -1,11 +1,10 @@
 -- Lines, multipliers and signs put together from their parts.
-use Rattle.std.proofs.Common.{ℕ, zero, suc, ◌≡◌, ℤ, pos, negsuc, neg_ℤ, ◌*ℤ◌, unsigned_abs, int_div, false, ◌||◌, List, set, length, refl, ap, ◌∙◌}
+use Rattle.std.proofs.Common.{ℕ, zero, suc, ◌≡◌, ℤ, pos, negsuc, neg_ℤ, ◌*ℤ◌, unsigned_abs, false, ◌||◌, List, set, length, refl, ap, ◌∙◌}
 use Rattle.emp_algebra.proofs.Laws.{one-*ℤ, neg_ℤ-*ℤ}
 use Rattle.emp_num.specs.Exact.{IsNarrow}
-use Rattle.emp_num.specs.Gcd.{gcd_of}
 use Rattle.emp_line.specs.declared.line.Line.{Line}
 use Rattle.emp_line.proofs.Steps.{wide_no}
-use Rattle.emp_line.specs.Pivot.{sign, Factors, factors, step_wide, steps_wide, combination_wide}
+use Rattle.emp_line.specs.Pivot.{sign, Factors, step_wide, steps_wide, combination_wide}
 use Rattle.emp_line.specs.Lines.{IsLine}
 
 pub narrow_all : (f : Factors) (l t : Line) (j : ℕ) → IsNarrow (f.own *ℤ l.denom) → step_wide f l.constant t.constant ≡ false → steps_wide f (set l.cells j (pos 0)) t.cells ≡ false → combination_wide f l t j ≡ false
@@ -14,9 +13,6 @@ narrow_all f l t j a b c =
 
 pub line_eq : (d e k m : ℤ) (r s : List ℤ) → d ≡ e → k ≡ m → r ≡ s → ◌≡◌ {A = Line} (record { denom = d; constant = k; cells = r }) (record { denom = e; constant = m; cells = s })
 line_eq d e k m r s p q o = λ i. record { denom = p i; constant = q i; cells = o i }
-
-pub factors_is : (h a : ℤ) (g : ℕ) (x y : ℤ) → g ≡ gcd_of (unsigned_abs h) (unsigned_abs a) → x ≡ int_div h (pos g) → y ≡ int_div a (pos g) → ◌≡◌ {A = Factors} (record { own = x; other = y }) (factors h a)
-factors_is h a g x y e p q = λ i. record { own = (p ∙ ap (λ n. int_div h (pos n)) e) i; other = (q ∙ ap (λ n. int_div a (pos n)) e) i }
 
 pub sign_self : (z : ℤ) → sign z *ℤ z ≡ pos (unsigned_abs z)
 sign_self (pos zero) = refl

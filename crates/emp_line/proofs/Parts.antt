@@ -8,9 +8,9 @@ use Rattle.emp_num.specs.declared.exact.Wide.{Wide as WideNumber}
 use Rattle.emp_line.specs.Place.{StepGives, moved_wide}
 use Rattle.emp_line.specs.declared.line.Line.{Line}
 use Rattle.emp_algebra.specs.Vector.{cell, scale}
-use Rattle.emp_algebra.proofs.Vectors.{length-scale, cell-scale}
+use Rattle.emp_algebra.proofs.Vectors.{length-scale}
 use Rattle.emp_line.specs.Pivot.{sign, turned, Factors, factors, is_wide, step_wide, steps_wide, combination_wide, combined, reduced, moved}
-use Rattle.emp_line.proofs.Steps.{narrow_from, zero_yes, zero_no, or_left, or_right, wide_left, wide_right, wide_sum, none_wide, wide_here, wide_next, wide_all}
+use Rattle.emp_line.proofs.Steps.{narrow_from, zero_yes, zero_no, or_left, or_right, wide_left, wide_right, wide_sum, none_wide}
 
 pub left_narrow : (f : Factors) (a b : ℤ) → step_wide f a b ≡ false → IsNarrow (f.own *ℤ a)
 left_narrow f a b h = narrow_from (f.own *ℤ a) (or_left (is_wide (f.own *ℤ a)) (is_wide (f.other *ℤ b)) (or_left (is_wide (f.own *ℤ a) || is_wide (f.other *ℤ b)) (is_wide (f.own *ℤ a +ℤ f.other *ℤ b)) h))
@@ -36,26 +36,8 @@ sum_gives f a b l r (Err w) el hl er hr h =
 
 pub ruleset stepping = (to_z-of_z, wide_left, wide_right, wide_sum, none_wide)
 
-pub ruleset widening = (wide_here, wide_next, wide_all)
-
--- ---- the turned line's cells
-pub turned_here : (l : Line) (j k : ℕ) (z : ℤ) → j < length l.cells → k ≡ j → z ≡ sign (cell l.cells j) *ℤ l.denom → z ≡ cell (turned l j).cells k
-turned_here l j k z h e f =
-    f ∙ (sym (get_or-set_same (scale (neg_ℤ (sign (cell l.cells j))) l.cells) j (sign (cell l.cells j) *ℤ l.denom) (pos 0) (subst (λ n. j < n) (sym (length-scale (neg_ℤ (sign (cell l.cells j))) l.cells)) h)) ∙ ap (λ i. cell (turned l j).cells i) (sym e))
-
-pub turned_other : (l : Line) (j k : ℕ) (z : ℤ) → k ≢ j → z ≡ neg_ℤ (sign (cell l.cells j)) *ℤ cell l.cells k → z ≡ cell (turned l j).cells k
-turned_other l j k z n f =
-    f ∙ (sym (cell-scale (neg_ℤ (sign (cell l.cells j))) l.cells k) ∙ sym (get_or-set_other (scale (neg_ℤ (sign (cell l.cells j))) l.cells) j k (sign (cell l.cells j) *ℤ l.denom) (pos 0) n))
-
 pub length_turned : (l : Line) (j : ℕ) → length (turned l j).cells ≡ length l.cells
 length_turned l j = length-set (scale (neg_ℤ (sign (cell l.cells j))) l.cells) j (sign (cell l.cells j) *ℤ l.denom) ∙ length-scale (neg_ℤ (sign (cell l.cells j))) l.cells
-
--- ---- the parts of a combination that is not wide
-pub narrow_denom : (f : Factors) (l t : Line) (j : ℕ) → combination_wide f l t j ≡ false → IsNarrow (f.own *ℤ l.denom)
-narrow_denom f l t j e = narrow_from (f.own *ℤ l.denom) (or_left (is_wide (f.own *ℤ l.denom)) (step_wide f l.constant t.constant) (or_left (is_wide (f.own *ℤ l.denom) || step_wide f l.constant t.constant) (steps_wide f (set l.cells j (pos 0)) t.cells) e))
-
-pub narrow_constant : (f : Factors) (l t : Line) (j : ℕ) → combination_wide f l t j ≡ false → step_wide f l.constant t.constant ≡ false
-narrow_constant f l t j e = or_right (is_wide (f.own *ℤ l.denom)) (step_wide f l.constant t.constant) (or_left (is_wide (f.own *ℤ l.denom) || step_wide f l.constant t.constant) (steps_wide f (set l.cells j (pos 0)) t.cells) e)
 
 pub narrow_cells : (f : Factors) (l t : Line) (j : ℕ) → combination_wide f l t j ≡ false → steps_wide f (set l.cells j (pos 0)) t.cells ≡ false
 narrow_cells f l t j e = or_right (is_wide (f.own *ℤ l.denom) || step_wide f l.constant t.constant) (steps_wide f (set l.cells j (pos 0)) t.cells) e
@@ -66,11 +48,3 @@ narrow_moves t l j f n e h =
 
 pub moved_still : (t l : Line) (j : ℕ) → cell l.cells j ≡ pos 0 → moved t j l ≡ Some l
 moved_still t l j e = ap (λ b. cond b (Some l) (cond (combination_wide (factors t.denom (cell l.cells j)) l t j) None (Some (reduced (combined (factors t.denom (cell l.cells j)) l t j))))) (zero_yes (cell l.cells j) e)
-
-pub moved_some : (t l y : Line) (j : ℕ) (f : Factors) → cell l.cells j ≢ pos 0 → f ≡ factors t.denom (cell l.cells j) → moved_wide t j l ≡ false → y ≡ reduced (combined f l t j) → moved t j l ≡ Some y
-moved_some t l y j f n e h r =
-    ap (λ b. cond b (Some l) (cond (combination_wide (factors t.denom (cell l.cells j)) l t j) None (Some (reduced (combined (factors t.denom (cell l.cells j)) l t j))))) (zero_no (cell l.cells j) n)
-    ∙ (ap (λ b. cond b None (Some (reduced (combined (factors t.denom (cell l.cells j)) l t j)))) (narrow_moves t l j (factors t.denom (cell l.cells j)) n refl h)
-    ∙ ap Some (sym (r ∙ ap (λ g. reduced (combined g l t j)) e)))
-
-pub ruleset turning = (to_z-of_z, turned_here, turned_other)

@@ -104,10 +104,6 @@ meets at j end (a ∷ as') (b ∷ bs) s t = go (cases_eq a.column at) (cases_eq 
     })
     go (inr n) (inr m) = inr (record { own = there_number at a (struck j a) n; other = there_number at b b.number m; past_own = there_past at a as' n; past_other = there_past at b bs m })
 
--- ---- numbers that are wide
-zero_wide : is_wide (pos 0) ≡ false
-zero_wide = refl
-
 pub zero_step : (f : Factors) → step_wide f (pos 0) (pos 0) ≡ false
 zero_step f =
     ap (λ z. is_wide z || is_wide (f.other *ℤ pos 0) || is_wide (z +ℤ f.other *ℤ pos 0)) (*ℤ-zero f.own) ∙ ap (λ z. is_wide (pos 0) || is_wide z || is_wide (pos 0 +ℤ z)) (*ℤ-zero f.other)

@@ -202,27 +202,6 @@ indexing_start w rows flags e = subst (Indexing w 0 rows) (sym e) (record {
   rest = λ k i h b. ap (λ r. get_or r i false) (get_or-replicate w k (replicate (length rows) false) [] h) ∙ all_false (length rows) i;
 })
 
-pub indexing_place : (w at : ℕ) (rows : List Line) (flags : List (List Bool)) (l : Line) → Indexing w at rows flags → at < length rows → length l.cells ≡ w → HasPlace (length l.cells) at flags
-indexing_place w at rows flags l x h e = record { columns = x.columns ∙ sym e; sizes = λ k b. (let s = x.sizes k (omega arith) in omega arith) }
-
-pub indexing_next : (w at : ℕ) (rows : List Line) (flags new : List (List Bool)) (l : Line) → Indexing w at rows flags → l ≡ get_or rows at no_line → IsMarked l at true flags new → Indexing w (at + 1) rows new
-indexing_next w at rows flags new l x e m = record {
-  columns = m.columns ∙ x.columns;
-  sizes = λ k h. m.sizes k (let c = x.columns in omega arith) ∙ x.sizes k h;
-  done = λ k i h b. told k i h b (cases_eq i at);
-  rest = λ k i h b. m.others k i (omega arith) ∙ x.rest k i h (omega arith);
-}
-  where
-    same : (b : Bool) → cond b true false ≡ b
-    same true = refl
-    same false = refl
-
-    told : (k i : ℕ) → k < w → i < at + 1 → (i ≡ at) ⊎ (i ≢ at) → flag new k i ≡ has_cell (get_or rows i no_line) k
-    told k i h b (inl q) =
-        ap (flag new k) q ∙ (m.here k (let c = x.columns in omega arith)
-        ∙ (ap (λ y. cond (has_cell l k) true y) (x.rest k at h (omega arith)) ∙ (same (has_cell l k) ∙ (ap (λ y. has_cell y k) e ∙ ap (λ y. has_cell (get_or rows y no_line) k) (sym q)))))
-    told k i h b (inr q) = m.others k i q ∙ x.done k i h (omega arith)
-
 pub indexing_all : (w at : ℕ) (rows : List Line) (flags : List (List Bool)) → Indexing w at rows flags → length rows ≤ at → IsIndex w flags rows
 indexing_all w at rows flags x h = record { columns = x.columns; sizes = x.sizes; flags = λ k i b c. x.done k i b (omega arith) }
 

@@ -1,7 +1,7 @@
 -- What the steps of a pivot in place keep and give.
 use Rattle.std.specs.Prelude.{◌≢◌, ◌||◌, nat_eq, [], slice_index_or, ◌+◌, ◌≤◌, ◌∷◌, drop, length, cond, int_div, ◌≡◌, ℕ, ◌<◌, ◌^◌, ℤ, ◌+ℤ◌, ◌*ℤ◌, Bool, true, false, List, Option, Some, None, Result, Ok, Err, unsigned_abs}
 use Rattle.std.specs.List.{All}
-use Rattle.emp_algebra.specs.Vector.{cell, scale, add_rows}
+use Rattle.emp_algebra.specs.Vector.{cell}
 use Rattle.emp_num.specs.declared.exact.Wide.{Wide}
 use Rattle.emp_line.specs.declared.line.Line.{Line}
 use Rattle.emp_line.specs.Pivot.{quotients, Factors, factors, is_zero, step_wide, combination_wide}
@@ -42,10 +42,6 @@ is_none (Some x) = false
 abbrev pub PivotGives : Option (List Line) → List Line → List Line → Result (Unit {0}) Wide → Type 0
 PivotGives o old new (Ok u) = o ≡ Some new
 PivotGives o old new (Err e) = (o ≡ None) × (new ≡ old)
-
--- own times the line plus other times the turned line
-abbrev pub summed_line : Factors → Line → Line → Line
-summed_line f l t = record { denom = f.own *ℤ l.denom; constant = f.own *ℤ l.constant +ℤ f.other *ℤ t.constant; cells = add_rows (scale f.own l.cells) (scale f.other t.cells) }
 
 -- each number of the line divided, rounded towards 0
 abbrev pub divided_line : Line → ℤ → Line
