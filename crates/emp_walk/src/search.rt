@@ -1,18 +1,22 @@
 //! The search of a row system.
 ghost use Rattle.std.specs.Prelude.{◌≡◌, length, IfOk};
+ghost use Rattle.emp_dict.specs.Dicts.{dictionary_of};
 ghost use Rattle.emp_cert.specs.Certs.{VerdictFits};
 ghost use Rattle.emp_cert.specs.Nodes.{AreTrees};
 ghost use Rattle.emp_search.specs.Search.{closed};
 ghost use Rattle.emp_walk.specs.Courses.{CourseFits, EndFits, ending_of, state_of};
+ghost use Rattle.emp_walk.specs.declared.course.End.TheVariants.{Point, Ray};
 ghost use Rattle.emp_walk.specs.Runs.{EndWhole, RunGives};
-ghost use Rattle.emp_walk.specs.Searches.{SearchGives, VerdictGives};
+ghost use Rattle.emp_walk.specs.Searches.{IsBestOf, SearchGives, VerdictGives};
 
 use crate::course::{Course, End};
 use crate::fault::WalkFault;
 use emp_cert::cert::Verdict;
 use emp_cert::tree::Tree;
 use emp_decide::point::{point_of, step_of};
+use emp_dict::dict::Dict;
 use emp_list::memory::NoMemory;
+use emp_list::seq::Seq;
 use emp_rows::system::RowSystem;
 use std::alloc::Global;
 
@@ -38,32 +42,55 @@ fn run(course: &mut Course, alloc: Global, system: &RowSystem) -> Result<End, Wa
     }
 }
 
-/// The verdict where no node is left.
-fn closed(course: Course, alloc: Global) -> Result<Verdict, NoMemory>
-    requires { AreTrees 1 course.written }
-    ensures { IfOk result (VerdictGives (closed (state_of course)) (state_of course)) }
+/// The verdict with a best point and its tree.
+fn bounded(alloc: Global, best: &Dict, tree: Tree) -> Result<Verdict, NoMemory>
+    ensures { IfOk result (IsBestOf (dictionary_of best.now) tree) }
 {
-    let Course { best, written, .. } = course;
-    match best {
-        Some(best) => Ok(Verdict::Best(point_of(alloc, &best)?, Tree { nodes: written })),
-        None => Ok(Verdict::Missing(Tree { nodes: written })),
+    let point = point_of(alloc, best)?;
+    Ok(Verdict::Best(point, tree))
+}
+
+/// The verdict where no node is left. What was written is taken out of the course.
+fn closed(course: &mut Course, alloc: Global) -> Result<Verdict, NoMemory>
+    requires { AreTrees 1 course.old.written }
+    ensures { IfOk result (VerdictGives (closed (state_of course.old)) (state_of course.old)) }
+{
+    let mut nodes = Seq::new(alloc);
+    std::mem::swap(&mut course.written, &mut nodes);
+    let tree = Tree { nodes };
+    match &course.best {
+        Some(best) => bounded(alloc, best, tree),
+        None => Ok(Verdict::Missing(tree)),
     }
 }
 
+/// The verdict where the node's point is a row point.
+fn at_point(course: &Course, alloc: Global) -> Result<Verdict, NoMemory>
+    ensures { IfOk result (VerdictGives (ending_of course.now Point) (state_of course.now)) }
+{
+    Ok(Verdict::Point(point_of(alloc, &course.dict)?))
+}
+
+/// The verdict where the objective falls without end along a column.
+fn along(course: &Course, alloc: Global, column: usize, up: bool) -> Result<Verdict, NoMemory>
+    requires { EndFits course.now (Ray column up) }
+    ensures { IfOk result (VerdictGives (ending_of course.now (Ray column up)) (state_of course.now)) }
+{
+    let point = point_of(alloc, &course.dict)?;
+    let step = step_of(alloc, &course.dict, column, up)?;
+    Ok(Verdict::Unbounded(point, step))
+}
+
 /// The verdict of a search that ends so.
-fn verdict(course: Course, alloc: Global, end: End) -> Result<Verdict, NoMemory>
-    requires whole { EndWhole course end }
-    requires fits { EndFits course end }
-    ensures { IfOk result (VerdictGives (ending_of course end) (state_of course)) }
+fn verdict(course: &mut Course, alloc: Global, end: End) -> Result<Verdict, NoMemory>
+    requires whole { EndWhole course.old end }
+    requires fits { EndFits course.old end }
+    ensures { IfOk result (VerdictGives (ending_of course.old end) (state_of course.old)) }
 {
     match end {
         End::Closed => closed(course, alloc),
-        End::Point => Ok(Verdict::Point(point_of(alloc, &course.dict)?)),
-        End::Ray(column, up) => {
-            let point = point_of(alloc, &course.dict)?;
-            let step = step_of(alloc, &course.dict, column, up)?;
-            Ok(Verdict::Unbounded(point, step))
-        }
+        End::Point => at_point(course, alloc),
+        End::Ray(column, up) => along(course, alloc, column, up),
     }
 }
 
@@ -87,7 +114,7 @@ pub fn search(alloc: Global, system: &RowSystem, work: u64) -> Result<Answer, Wa
         Err(fault) => return Err(fault),
     };
     let (work, nodes) = (course.budget.used, course.nodes);
-    match verdict(course, alloc, end) {
+    match verdict(&mut course, alloc, end) {
         Ok(verdict) => Ok(Answer {
             verdict,
             work,
