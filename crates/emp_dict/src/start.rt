@@ -4,7 +4,6 @@ ghost use Rattle.emp_dict.specs.Dictionary.{bases_from, line_of, objective_label
 ghost use Rattle.emp_dict.specs.declared.label.Mark.TheVariants.{Unasked};
 
 use crate::label::{Label, Mark};
-use emp_line::line::Line;
 use emp_line::row::Row;
 use emp_line::table::Table;
 use emp_list::memory::NoMemory;
@@ -51,23 +50,11 @@ pub fn unasked(alloc: Global, count: usize) -> Result<Seq<Mark>, NoMemory>
     Ok(out)
 }
 
-/// An affine quantity as a whole line.
-fn line_of(alloc: Global, row: &Affine) -> Result<Line, NoMemory>
-    ensures { IfOk result (λ line. line ≡ line_of row.now) }
-{
-    Ok(Line {
-        denom: 1,
-        constant: row.constant,
-        cells: row.cells.copy(alloc)?,
-    })
-}
-
 /// An affine quantity as a line.
 fn row_of(alloc: Global, row: &Affine) -> Result<Row, NoMemory>
     ensures { IfOk result (λ line. line ≡ line_of row.now) }
 {
-    let line = line_of(alloc, row)?;
-    Row::of(alloc, &line)
+    Row::of(alloc, 1, row.constant, row.cells.as_slice())
 }
 
 /// Affine quantities as lines.

@@ -19,3 +19,5 @@ pub mod Filling
 pub mod Rows
 pub mod Marks
 pub mod Tables
+pub mod Untouched
+pub mod Examples

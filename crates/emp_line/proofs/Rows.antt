@@ -29,7 +29,10 @@ whole d c w cs = record { denom = d; constant = c; cells = spread 0 w cs }
 pub row_width : (w : ℕ) (cs : List Cell) → length (spread 0 w cs) ≡ w
 row_width w cs = length_spread 0 w cs
 
-pub ruleset starting = (row_width)
+pub seen_width : (l : Line) (d c : ℤ) (w : ℕ) (cs : List Cell) → whole d c w cs ≡ l → w ≡ length l.cells
+seen_width l d c w cs e = sym (sym (ap (λ (x : Line). length x.cells) e) ∙ row_width w cs)
+
+pub ruleset starting = (row_width, seen_width)
 
 pub small_row : (d c : ℤ) (w : ℕ) (cs : List Cell) (l : Line) → whole d c w cs ≡ l → IsSmall d → IsSmall c → All IsSmall (numbers cs) → IsSmallLine l
 small_row d c w cs l e h k a = subst IsSmallLine e (record { denom = h; constant = k; cells = small_spread 0 w cs a })

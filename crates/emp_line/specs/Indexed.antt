@@ -18,12 +18,12 @@ pub record IsIndex (w : ℕ) (index : List (List Bool)) (lines : List Line) : Ty
   pub sizes : (k : ℕ) → k < w → length (slice_index_or index k []) ≡ length lines
   pub flags : (k i : ℕ) → k < w → i < length lines → flag index k i ≡ has_cell (slice_index_or lines i no_line) k
 
--- line `at` has its flags changed to `value` in the columns of l's cells, and no other flag is changed
-pub record IsMarked (l : Line) (at : ℕ) (value : Bool) (old new : List (List Bool)) : Type 0 where
+-- line `at` has its flags, in the columns of the other line's cells, changed to whether l has a cell there, and no other flag is changed
+pub record IsMarked (l other : Line) (at : ℕ) (old new : List (List Bool)) : Type 0 where
   pub columns : length new ≡ length old
   pub sizes : (k : ℕ) → k < length old → length (slice_index_or new k []) ≡ length (slice_index_or old k [])
   pub others : (k i : ℕ) → i ≢ at → flag new k i ≡ flag old k i
-  pub here : (k : ℕ) → k < length old → flag new k at ≡ cond (has_cell l k) value (flag old k at)
+  pub here : (k : ℕ) → k < length old → flag new k at ≡ cond (has_cell other k) (has_cell l k) (flag old k at)
 
 -- so many columns have a place for line `at`
 pub record HasPlace (w at : ℕ) (index : List (List Bool)) : Type 0 where

@@ -3,3 +3,4 @@ pub mod Lines
 pub mod Place
 pub mod Sparse
 pub mod Indexed
+pub mod Example

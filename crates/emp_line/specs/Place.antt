@@ -68,9 +68,9 @@ abbrev pub stands : ℕ → List Cell → Bool
 stands k [] = false
 stands k (c ∷ cs) = nat_eq c.column k || stands k cs
 
--- line `at` has its flags changed to `value` in the columns of the cells, and no other flag is changed
-pub record MarksCells (cs : List Cell) (at : ℕ) (value : Bool) (old new : List (List Bool)) : Type 0 where
+-- line `at` has its flags, in the columns of the first cells, changed to whether one of the second cells stands there, and no other flag is changed
+pub record MarksCells (along own : List Cell) (at : ℕ) (old new : List (List Bool)) : Type 0 where
   pub columns : length new ≡ length old
   pub sizes : (k : ℕ) → k < length old → length (slice_index_or new k []) ≡ length (slice_index_or old k [])
   pub others : (k i : ℕ) → i ≢ at → flag new k i ≡ flag old k i
-  pub here : (k : ℕ) → k < length old → flag new k at ≡ cond (stands k cs) value (flag old k at)
+  pub here : (k : ℕ) → k < length old → flag new k at ≡ cond (stands k along) (stands k own) (flag old k at)

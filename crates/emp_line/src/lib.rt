@@ -6,6 +6,7 @@ pub mod cells;
 pub mod divide;
 pub mod fill;
 pub mod index;
+pub mod laws;
 pub mod line;
 pub mod pairs;
 pub mod row;

@@ -1,5 +1,5 @@
 //! Two lines side by side.
-ghost use Rattle.std.specs.Prelude.{◌≡◌, ◌<◌, ◌≤◌, ◌⊎◌, length, slice_index_or};
+ghost use Rattle.std.specs.Prelude.{◌≡◌, ◌+◌, ◌<◌, ◌≤◌, ◌⊎◌, length, slice_index_or};
 ghost use Rattle.emp_line.specs.Sparse.{no_cell, struck, first_alone, second_alone, both_cells};
 ghost use Rattle.emp_line.specs.Place.{IsNext};
 
@@ -73,6 +73,34 @@ fn both(own: &[Cell], other: &[Cell], own_at: usize, other_at: usize, column: us
     }
 }
 
+/// The first line's cell at a place alone, and the places after it.
+fn from_first(own: &[Cell], own_at: usize, other_at: usize, column: usize) -> Next
+    requires { own_at < length own.now }
+    ensures pair { result.pair ≡ first_alone column (slice_index_or own.now own_at no_cell) }
+    ensures own { result.own_at ≡ own_at + 1 }
+    ensures other { result.other_at ≡ other_at }
+{
+    Next {
+        pair: first_alone(own, own_at, column),
+        own_at: own_at + 1,
+        other_at,
+    }
+}
+
+/// The second line's cell at a place alone, and the places after it.
+fn from_second(other: &[Cell], own_at: usize, other_at: usize) -> Next
+    requires { other_at < length other.now }
+    ensures pair { result.pair ≡ second_alone (slice_index_or other.now other_at no_cell) }
+    ensures own { result.own_at ≡ own_at }
+    ensures other { result.other_at ≡ other_at + 1 }
+{
+    Next {
+        pair: second_alone(other, other_at),
+        own_at,
+        other_at: other_at + 1,
+    }
+}
+
 /// The next pair where both lines have cells left.
 #[tactic(auto, using(crate::proofs::Beside::stepping))]
 fn next_of_two(own: &[Cell], other: &[Cell], own_at: usize, other_at: usize, column: usize) -> Next
@@ -81,18 +109,10 @@ fn next_of_two(own: &[Cell], other: &[Cell], own_at: usize, other_at: usize, col
     ensures { IsNext column own.now other.now own_at other_at result }
 {
     if own[own_at].column < other[other_at].column {
-        return Next {
-            pair: first_alone(own, own_at, column),
-            own_at: own_at + 1,
-            other_at,
-        };
+        return from_first(own, own_at, other_at, column);
     }
     if other[other_at].column < own[own_at].column {
-        return Next {
-            pair: second_alone(other, other_at),
-            own_at,
-            other_at: other_at + 1,
-        };
+        return from_second(other, own_at, other_at);
     }
     Next {
         pair: both(own, other, own_at, other_at, column),
@@ -117,18 +137,10 @@ pub fn next_pair(
     ensures { IsNext column own.now other.now own_at other_at result }
 {
     if own_at == own.len() {
-        return Next {
-            pair: second_alone(other, other_at),
-            own_at,
-            other_at: other_at + 1,
-        };
+        return from_second(other, own_at, other_at);
     }
     if other_at == other.len() {
-        return Next {
-            pair: first_alone(own, own_at, column),
-            own_at: own_at + 1,
-            other_at,
-        };
+        return from_first(own, own_at, other_at, column);
     }
     next_of_two(own, other, own_at, other_at, column)
 }

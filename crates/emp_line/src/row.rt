@@ -12,16 +12,14 @@ use crate::cells::{Cell, Cells};
 use crate::divide::{common_of, content_within, count_divisor, divider_for, quotient};
 use crate::fill::{fill_divided, fill_from, fill_sums, fill_turned, pairs_are_wide};
 use crate::index::mark_cells;
-use crate::line::{Line, against_sign, with_sign};
+use crate::line::{against_sign, with_sign};
 use crate::pairs::Pair;
-use crate::step::{Multipliers, Turner, are_small, step_is_wide, sum_of};
+use crate::step::{Multipliers, SMALL, Turner, are_small, step_is_wide, sum_of};
 use emp_list::memory::NoMemory;
 use emp_list::seq::Seq;
 use emp_num::exact::{Wide, product};
 use std::alloc::Global;
 use std::marker::Model;
-
-const SMALL: i128 = 4611686018427387904;
 
 /// A line that keeps its cells other than 0 alone, in order of columns, with room for one in each column. Contracts see the whole `Line`.
 #[derive(Drop)]
@@ -93,17 +91,25 @@ impl Row {
         })
     }
 
-    /// The same line as a whole one.
-    pub fn of(alloc: Global, line: &Line) -> Result<Row, NoMemory>
-        ensures { IfOk result (λ row. row ≡ line.now) }
+    /// The line with this denominator, this constant and these numbers in its columns.
+    pub fn of(alloc: Global, denom: i128, constant: i128, numbers: &[i128]) -> Result<Row, NoMemory>
+        ensures { IfOk result (λ row. row ≡ record { denom = denom; constant = constant; cells = numbers.now }) }
     {
-        let mut cells = Cells::new(alloc, line.cells.len())?;
-        fill_from(&mut cells, line.cells.as_slice());
+        let mut cells = Cells::new(alloc, numbers.len())?;
+        fill_from(&mut cells, numbers);
         Ok(Row {
-            denom: line.denom,
-            constant: line.constant,
+            denom,
+            constant,
             cells,
         })
+    }
+
+    /// How many columns the line has.
+    #[tactic(auto, using(crate::proofs::Rows::starting))]
+    pub fn width(&self) -> usize
+        ensures { result ≡ length self.now.cells }
+    {
+        self.cells.width()
     }
 
     /// The denominator, which is above 0 in a dictionary.
@@ -376,16 +382,16 @@ impl Row {
         self.take_reduced(spare, column);
     }
 
-    /// Sets or takes away the flags of line `at` of an index in the columns of this line's cells.
-    pub fn mark(&self, index: &mut Seq<Seq<bool>>, at: usize, value: bool)
-        requires { HasPlace (length self.now.cells) at index.old }
-        ensures { IsMarked self.now at value index.old index.new }
+    /// Sets or takes away the flags of line `at` of an index in the columns of the cells of `along`, as this line has cells there.
+    pub fn mark(&self, index: &mut Seq<Seq<bool>>, along: &Row, at: usize)
+        requires width { length along.now.cells ≡ length self.now.cells }
+        requires index { HasPlace (length self.now.cells) at index.old }
+        ensures { IsMarked self.now along.now at index.old index.new }
     {
-        mark_cells(index, self.cells.as_slice(), at, value);
+        mark_cells(index, along.cells.as_slice(), self.cells.as_slice(), at);
     }
 
-    /// The same as `move_by`, with the flags of the line, which has number `at`.
-    #[tactic(auto, using(crate::proofs::Tables::flagging))]
+    /// The same as `move_by`, with the flags of the line, which has number `at`. They change only where the turned line has a cell.
     pub fn move_flagged(
         &mut self,
         pivot: &Row,
@@ -396,6 +402,7 @@ impl Row {
     )
         requires line { IsLine (length self.old.cells) self.old }
         requires pivot { IsLine (length self.old.cells) pivot.now }
+        requires head { cell pivot.now.cells column ≢ pos 0 }
         requires spare { length spare.old.cells ≡ length self.old.cells }
         requires column { column < length self.old.cells }
         requires nonzero { cell self.old.cells column ≢ pos 0 }
@@ -407,8 +414,7 @@ impl Row {
         ensures spare { length spare.new.cells ≡ length spare.old.cells }
         ensures index { IsFlagged self.new at index.old index.new }
     {
-        self.mark(index, at, false);
         self.move_by(pivot, column, spare);
-        self.mark(index, at, true);
+        self.mark(index, pivot, at);
     }
 }

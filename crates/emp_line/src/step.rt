@@ -87,7 +87,8 @@ pub fn cell_turned(turner: Turner, column: usize, cells: &[Cell], at: usize) -> 
     }
 }
 
-const SMALL: i128 = 4611686018427387904;
+/// 2^62: products of two numbers below it in absolute value, and sums of two such products, are not wide.
+pub const SMALL: i128 = 4611686018427387904;
 
 /// Whether all numbers of the cells are below 2^62 in absolute value.
 #[tactic(auto, using(crate::proofs::Cellwise::sizing))]

@@ -98,6 +98,7 @@ fn move_others(
     requires pivot { IsLine (length pivot.now.cells) pivot.now }
     requires spare { length spare.old.cells ≡ length pivot.now.cells }
     requires column { column < length pivot.now.cells }
+    requires head { cell pivot.now.cells column ≢ pos 0 }
     requires index { IsIndex (length pivot.now.cells) index.old lines.old }
     requires lines { (i : ℕ) → i < length lines.old → IsLine (length pivot.now.cells) (slice_index_or lines.old i no_line) }
     requires narrow { (i : ℕ) → i < length lines.old → i ≢ row → moved_wide pivot.now column (slice_index_or lines.old i no_line) ≡ false }
@@ -167,9 +168,30 @@ fn index_of(alloc: Global, width: usize, lines: &[Row]) -> Result<Seq<Seq<bool>>
 {
     let mut index = blank(alloc, width, lines.len())?;
     for at in 0..lines.len() {
-        lines[at].mark(&mut index, at, true);
+        lines[at].mark(&mut index, &lines[at], at);
     }
     Ok(index)
+}
+
+/// The table of lines with their index, and places of as many columns that are lent.
+fn with_index(
+    alloc: Global,
+    width: usize,
+    lines: Seq<Row>,
+    index: Seq<Seq<bool>>,
+) -> Result<Table, NoMemory>
+    requires lines { (i : ℕ) → i < length lines → length (slice_index_or lines i no_line).cells ≡ width }
+    requires index { IsIndex width index lines }
+    ensures { IfOk result (λ table. table ≡ lines) }
+{
+    let turned = Row::new(alloc, width)?;
+    let spare = Row::new(alloc, width)?;
+    Ok(Table {
+        lines,
+        index,
+        turned,
+        spare,
+    })
 }
 
 impl Table {
@@ -179,14 +201,7 @@ impl Table {
         ensures { IfOk result (λ table. table ≡ lines) }
     {
         let index = index_of(alloc, width, lines.as_slice())?;
-        let turned = Row::new(alloc, width)?;
-        let spare = Row::new(alloc, width)?;
-        Ok(Table {
-            lines,
-            index,
-            turned,
-            spare,
-        })
+        with_index(alloc, width, lines, index)
     }
 
     /// The same lines once more. It leaves this table alone.
@@ -195,14 +210,7 @@ impl Table {
     {
         let lines = copy_rows(alloc, self.lines.as_slice())?;
         let index = copy_index(alloc, self.index.as_slice())?;
-        let turned = self.turned.copy(alloc)?;
-        let spare = self.spare.copy(alloc)?;
-        Ok(Table {
-            lines,
-            index,
-            turned,
-            spare,
-        })
+        with_index(alloc, self.turned.width(), lines, index)
     }
 
     /// How many lines there are.
