@@ -3,7 +3,6 @@ use Rattle.std.specs.Prelude.{◌≡◌, ◌≢◌, ℕ, ◌-◌, ◌*◌, ◌�
 use Rattle.emp_rows.specs.declared.system.RowSystem.{RowSystem}
 use Rattle.emp_cert.specs.declared.cert.Verdict.{Verdict}
 use Rattle.emp_cert.specs.declared.cert.Verdict.TheVariants.{Point, Missing, Best, Unbounded}
-use Rattle.emp_cert.specs.declared.tree.Tree.{Tree}
 use Rattle.emp_dict.specs.Dictionary.{Dictionary}
 use Rattle.emp_decide.specs.Reads.{IsPointOf, IsStepOf}
 use Rattle.emp_ends.specs.Ends.{nodes_below, node_units}
@@ -20,13 +19,6 @@ VerdictGives r st (Point p) = (d : Dictionary) × (r ≡ found (point d) st) × 
 VerdictGives r st (Missing t) = (r ≡ closed st) × (st.best ≡ None) × (t.nodes ≡ st.written)
 VerdictGives r st (Best p t) = (d : Dictionary) × (r ≡ closed st) × (st.best ≡ Some d) × IsPointOf d p × (t.nodes ≡ st.written)
 VerdictGives r st (Unbounded p y) = (d : Dictionary) × (j : ℕ) × (up : Bool) × (r ≡ found (ray d j up) st) × IsPointOf d p × IsStepOf d j up y
-
--- the best verdict with the point of the dictionary and the tree
-abbrev pub IsBestOf : Dictionary → Tree → Verdict → Type 0
-IsBestOf d t (Point p) = ⊥
-IsBestOf d t (Missing u) = ⊥
-IsBestOf d t (Best p u) = IsPointOf d p × (u ≡ t)
-IsBestOf d t (Unbounded p y) = ⊥
 
 pub record AnswerGives (r : Searched) (limit : ℕ) (a : Answer) : Type 0 where
   pub state : State

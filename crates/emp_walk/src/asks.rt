@@ -1,17 +1,15 @@
 //! What a node asks, and the work on its dictionary.
-ghost use Rattle.std.specs.Prelude.{◌≡◌, ◌<◌, ℕ, length, IfOk, Some, pos};
+ghost use Rattle.std.specs.Prelude.{◌≡◌, ◌<◌, ℕ, length, IfOk};
 ghost use Rattle.emp_dict.specs.Dictionary.{mark_at};
 ghost use Rattle.emp_dict.specs.declared.label.Mark.TheVariants.{Unasked};
 ghost use Rattle.emp_dict.specs.Dicts.{dictionary_of};
 ghost use Rattle.emp_face.specs.Budgets.{units_left};
-ghost use Rattle.emp_rows.specs.declared.affine.Affine.{Affine};
-ghost use Rattle.emp_search.specs.Search.{ask_of, asked, asks_from, step_of, worked};
-ghost use Rattle.emp_step.specs.Steps.{StepGives, bested};
-ghost use Rattle.emp_walk.specs.Fits.{AskFits, AskedFits, AsksFit, DoneFits, IsAt, asks_of};
+ghost use Rattle.emp_search.specs.Search.{asked, asks_from, worked};
+ghost use Rattle.emp_step.specs.Steps.{StepGives};
+ghost use Rattle.emp_walk.specs.Fits.{AsksFit, DoneFits, IsAt, asks_of};
 
-use emp_dict::dict::Dict;
+use crate::kept::{Kept, Steps};
 use emp_face::budget::Budget;
-use emp_face::steps::{best, fix, raise};
 use emp_rows::system::{Kind, RowSystem};
 use emp_step::outcome::{Outcome, StepFault};
 
@@ -24,28 +22,13 @@ pub enum Asks {
     Child(u32),
 }
 
-/// Raises or fixes a quantity by its kind.
-fn ask(
+/// Raises or fixes each quantity in order, until one cannot be.
+fn ask_all<S: Steps>(
+    steps: &mut S,
     system: &RowSystem,
-    dict: &mut Dict,
-    k: u32,
-    kind: Kind,
+    dict: &mut Kept,
     budget: &mut Budget,
 ) -> Result<Outcome, StepFault>
-    requires at { IsAt system.now (dictionary_of dict.old) }
-    requires asks { AskFits (dictionary_of dict.old) k kind }
-    ensures step { StepGives (step_of (ask_of k kind) (units_left budget.old) (dictionary_of dict.old)) (dictionary_of dict.new) (units_left budget.new) result }
-    ensures limit { budget.new.limit ≡ budget.old.limit }
-    ensures fits { IfOk result (AskedFits system.now (dictionary_of dict.old) (dictionary_of dict.new) k) }
-{
-    match kind {
-        Kind::Zero => fix(dict, k, budget),
-        Kind::Nonneg => raise(dict, k, budget),
-    }
-}
-
-/// Raises or fixes each quantity in order, until one cannot be.
-fn ask_all(system: &RowSystem, dict: &mut Dict, budget: &mut Budget) -> Result<Outcome, StepFault>
     requires at { IsAt system.now (dictionary_of dict.old) }
     requires unasked { (q : ℕ) → mark_at (dictionary_of dict.old) q ≡ Unasked }
     ensures step { StepGives (asked (asks_from 1 system.now.kinds) (units_left budget.old) (dictionary_of dict.old)) (dictionary_of dict.new) (units_left budget.new) result }
@@ -54,7 +37,7 @@ fn ask_all(system: &RowSystem, dict: &mut Dict, budget: &mut Budget) -> Result<O
 {
     for at in 0..system.kinds.len() {
         let kind = system.kinds.as_slice()[at];
-        let outcome = ask(system, dict, at as u32 + 1, kind, budget)?;
+        let outcome = dict.ask(steps, system, at as u32 + 1, kind, budget)?;
         if outcome != Outcome::Held {
             return Ok(outcome);
         }
@@ -63,9 +46,10 @@ fn ask_all(system: &RowSystem, dict: &mut Dict, budget: &mut Budget) -> Result<O
 }
 
 /// Does what a node asks.
-fn ask_each(
+fn ask_each<S: Steps>(
+    steps: &mut S,
     system: &RowSystem,
-    dict: &mut Dict,
+    dict: &mut Kept,
     asks: Asks,
     budget: &mut Budget,
 ) -> Result<Outcome, StepFault>
@@ -76,26 +60,16 @@ fn ask_each(
     ensures fits { IfOk result (DoneFits system.now (dictionary_of dict.new)) }
 {
     match asks {
-        Asks::Root => ask_all(system, dict, budget),
-        Asks::Child(k) => ask(system, dict, k, Kind::Zero, budget),
+        Asks::Root => ask_all(steps, system, dict, budget),
+        Asks::Child(k) => dict.ask(steps, system, k, Kind::Zero, budget),
     }
 }
 
-/// Makes the objective least.
-fn least(system: &RowSystem, dict: &mut Dict, budget: &mut Budget) -> Result<Outcome, StepFault>
-    requires at { IsAt system.now (dictionary_of dict.old) }
-    requires objective { (o : Affine) × (system.now.objective ≡ Some o) }
-    ensures step { StepGives (bested (units_left budget.old) (dictionary_of dict.old)) (dictionary_of dict.new) (units_left budget.new) result }
-    ensures limit { budget.new.limit ≡ budget.old.limit }
-    ensures fits { IfOk result (DoneFits system.now (dictionary_of dict.new)) }
-{
-    best(dict, budget)
-}
-
 /// Does what a node asks, and then makes the objective least, where there is one.
-pub fn work(
+pub fn work<S: Steps>(
+    steps: &mut S,
     system: &RowSystem,
-    dict: &mut Dict,
+    dict: &mut Kept,
     asks: Asks,
     budget: &mut Budget,
 ) -> Result<Outcome, StepFault>
@@ -105,12 +79,12 @@ pub fn work(
     ensures limit { budget.new.limit ≡ budget.old.limit }
     ensures fits { IfOk result (DoneFits system.now (dictionary_of dict.new)) }
 {
-    let outcome = ask_each(system, dict, asks, budget)?;
+    let outcome = ask_each(steps, system, dict, asks, budget)?;
     if outcome != Outcome::Held {
         return Ok(outcome);
     }
     match &system.objective {
-        Some(_) => least(system, dict, budget),
+        Some(_) => dict.least(steps, system, budget),
         None => Ok(outcome),
     }
 }

@@ -9,10 +9,10 @@ ghost use Rattle.emp_walk.specs.Fits.{IsAt};
 
 use crate::asks::{Asks, work};
 use crate::fault::WalkFault;
+use crate::kept::{Kept, Steps};
 use crate::next::{Next, decide};
 use emp_cert::tree::Node;
 use emp_decide::row::{bound_row, farkas_row};
-use emp_dict::dict::Dict;
 use emp_face::budget::Budget;
 use emp_list::memory::NoMemory;
 use emp_list::seq::Seq;
@@ -23,7 +23,7 @@ use std::alloc::Global;
 /// A branch whose first child is not done: the dictionary that its node ended with, and what its second child asks.
 #[derive(Drop)]
 pub struct Open {
-    pub dict: Dict,
+    pub dict: Kept,
     /// The number of the quantity that is the pair's second member.
     pub second: u32,
 }
@@ -43,13 +43,13 @@ pub enum End {
 #[derive(Drop)]
 pub struct Course {
     /// The dictionary of the node that is next, as its parent left it.
-    pub dict: Dict,
+    pub dict: Kept,
     /// What it is asked.
     pub asks: Asks,
     /// The open branches above it, the nearest last.
     pub stack: Seq<Open>,
     /// The dictionary of the best point so far.
-    pub best: Option<Dict>,
+    pub best: Option<Kept>,
     /// The nodes of the tree so far, in preorder.
     pub written: Seq<Node>,
     /// How many nodes were opened.
@@ -66,7 +66,7 @@ impl Course {
         ensures { IfOk result (IsStart system.now limit) }
     {
         Ok(Course {
-            dict: Dict::start(alloc, system)?,
+            dict: Kept::start(alloc, system)?,
             asks: Asks::Root,
             stack: Seq::new(alloc),
             best: None,
@@ -77,7 +77,7 @@ impl Course {
     }
 
     /// Takes a unit of work, and does the work of the node.
-    fn open(&mut self, system: &RowSystem) -> Result<Outcome, WalkFault>
+    fn open<S: Steps>(&mut self, steps: &mut S, system: &RowSystem) -> Result<Outcome, WalkFault>
         requires { CourseFits system.now self.old }
         ensures { OpenGives system.now self.old self.new result }
     {
@@ -86,7 +86,7 @@ impl Course {
         };
         prove!(self.nodes < self.budget.used);
         self.nodes += 1;
-        match work(system, &mut self.dict, self.asks, &mut self.budget) {
+        match work(steps, system, &mut self.dict, self.asks, &mut self.budget) {
             Ok(outcome) => Ok(outcome),
             Err(StepFault::Wide) => {
                 Err(WalkFault::Wide(self.nodes, self.budget.used - self.nodes))
@@ -116,7 +116,7 @@ impl Course {
         ensures wrote { IfOk result (λ u. self.new ≡ wrote self.old (Farkas (farkas_factors (dictionary_of self.old.dict) row))) }
         ensures fits { IfOk result (λ u. LeafFits (dictionary_of self.old.dict) (Farkas (farkas_factors (dictionary_of self.old.dict) row))) }
     {
-        let factors = farkas_row(alloc, &self.dict, row)?;
+        let factors = farkas_row(alloc, self.dict.dictionary(), row)?;
         self.written.push(Node::Farkas(factors))?;
         Ok(())
     }
@@ -127,9 +127,9 @@ impl Course {
         ensures wrote { IfOk result (λ u. self.new ≡ wrote self.old (bound_of (dictionary_of self.old.dict) row)) }
         ensures fits { IfOk result (λ u. LeafFits (dictionary_of self.old.dict) (bound_of (dictionary_of self.old.dict) row)) }
     {
-        let factors = bound_row(alloc, &self.dict, row)?;
+        let factors = bound_row(alloc, self.dict.dictionary(), row)?;
         self.written
-            .push(Node::Bound(self.dict.denom(row), factors))?;
+            .push(Node::Bound(self.dict.dictionary().denom(row), factors))?;
         Ok(())
     }
 
@@ -191,12 +191,17 @@ impl Course {
     }
 
     /// Opens a node, and does what comes next.
-    pub fn turn(&mut self, alloc: Global, system: &RowSystem) -> Result<Option<End>, WalkFault>
+    pub fn turn<S: Steps>(
+        &mut self,
+        steps: &mut S,
+        alloc: Global,
+        system: &RowSystem,
+    ) -> Result<Option<End>, WalkFault>
         requires { CourseFits system.now self.old }
         ensures { TurnGives system.now self.old self.new result }
     {
-        let outcome = self.open(system)?;
-        let next = decide(system, &self.best, &self.dict, outcome);
+        let outcome = self.open(steps, system)?;
+        let next = decide(system, &self.best, self.dict.dictionary(), outcome);
         match self.settle(alloc, system, next) {
             Ok(end) => Ok(end),
             Err(NoMemory) => Err(WalkFault::NoMemory),

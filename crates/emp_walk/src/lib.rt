@@ -4,6 +4,7 @@
 mod asks;
 mod course;
 pub mod fault;
+pub mod kept;
 mod next;
 pub mod search;
 pub mod walk;

@@ -8,6 +8,7 @@ ghost use Rattle.emp_search.specs.Search.{above, decided, is_above, first_pair, 
 ghost use Rattle.emp_walk.specs.Fits.{DoneFits, IsAt};
 ghost use Rattle.emp_walk.specs.Decisions.{BestFits, NextFits, TestFits, decision_of, passes, split_next};
 
+use crate::kept::Kept;
 use emp_dict::dict::Dict;
 use emp_dict::label::Label;
 use emp_num::frac::Frac;
@@ -109,13 +110,14 @@ fn reaches(a: Frac, b: Frac) -> bool
 }
 
 /// Whether the objective, in this row of the dictionary, is at least what it is at the incumbent.
-fn is_bounded(best: &Option<Dict>, dict: &Dict, row: usize) -> bool
+fn is_bounded(best: &Option<Kept>, dict: &Dict, row: usize) -> bool
     requires best { BestFits best.now }
     requires row { row < length (dictionary_of dict.now).rows }
     ensures { result ≡ is_bounded (option_map dictionary_of best.now) (dictionary_of dict.now) row }
 {
     match best {
         Some(incumbent) => {
+            let incumbent = incumbent.dictionary();
             let least = value(incumbent, incumbent.quantities());
             reaches(least, value(dict, row))
         }
@@ -134,7 +136,7 @@ fn split_or(end: Next, pair: Option<u32>) -> Next
 }
 
 /// What comes next after the outcome of a node's work.
-pub fn decide(system: &RowSystem, best: &Option<Dict>, dict: &Dict, outcome: Outcome) -> Next
+pub fn decide(system: &RowSystem, best: &Option<Kept>, dict: &Dict, outcome: Outcome) -> Next
     requires best { BestFits best.now }
     requires done { DoneFits system.now (dictionary_of dict.now) outcome }
     ensures decision { decision_of (option_map dictionary_of best.now) (dictionary_of dict.now) result ≡ decided system.now (option_map dictionary_of best.now) (dictionary_of dict.now) outcome }

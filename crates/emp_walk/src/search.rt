@@ -1,20 +1,19 @@
 //! The search of a row system.
 ghost use Rattle.std.specs.Prelude.{◌≡◌, length, IfOk};
-ghost use Rattle.emp_dict.specs.Dicts.{dictionary_of};
 ghost use Rattle.emp_cert.specs.Certs.{VerdictFits};
 ghost use Rattle.emp_cert.specs.Nodes.{AreTrees};
 ghost use Rattle.emp_search.specs.Search.{closed};
 ghost use Rattle.emp_walk.specs.Courses.{CourseFits, EndFits, ending_of, state_of};
 ghost use Rattle.emp_walk.specs.declared.course.End.TheVariants.{Point, Ray};
 ghost use Rattle.emp_walk.specs.Runs.{EndWhole, RunGives};
-ghost use Rattle.emp_walk.specs.Searches.{IsBestOf, SearchGives, VerdictGives};
+ghost use Rattle.emp_walk.specs.Searches.{SearchGives, VerdictGives};
 
 use crate::course::{Course, End};
 use crate::fault::WalkFault;
+use crate::kept::{FaceSteps, Steps};
 use emp_cert::cert::Verdict;
 use emp_cert::tree::Tree;
 use emp_decide::point::{point_of, step_of};
-use emp_dict::dict::Dict;
 use emp_list::memory::NoMemory;
 use emp_list::seq::Seq;
 use emp_rows::system::RowSystem;
@@ -29,25 +28,22 @@ pub struct Answer {
 }
 
 /// Opens nodes until the search ends.
-fn run(course: &mut Course, alloc: Global, system: &RowSystem) -> Result<End, WalkFault>
+fn run<S: Steps>(
+    course: &mut Course,
+    steps: &mut S,
+    alloc: Global,
+    system: &RowSystem,
+) -> Result<End, WalkFault>
     requires { CourseFits system.now course.old }
     ensures { RunGives system.now course.old course.new result }
 {
     loop {
-        match course.turn(alloc, system) {
+        match course.turn(steps, alloc, system) {
             Ok(Some(end)) => return Ok(end),
             Ok(None) => {}
             Err(fault) => return Err(fault),
         }
     }
-}
-
-/// The verdict with a best point and its tree.
-fn bounded(alloc: Global, best: &Dict, tree: Tree) -> Result<Verdict, NoMemory>
-    ensures { IfOk result (IsBestOf (dictionary_of best.now) tree) }
-{
-    let point = point_of(alloc, best)?;
-    Ok(Verdict::Best(point, tree))
 }
 
 /// The verdict where no node is left. What was written is taken out of the course.
@@ -59,7 +55,7 @@ fn closed(course: &mut Course, alloc: Global) -> Result<Verdict, NoMemory>
     std::mem::swap(&mut course.written, &mut nodes);
     let tree = Tree { nodes };
     match &course.best {
-        Some(best) => bounded(alloc, best, tree),
+        Some(best) => Ok(Verdict::Best(point_of(alloc, best.dictionary())?, tree)),
         None => Ok(Verdict::Missing(tree)),
     }
 }
@@ -68,7 +64,7 @@ fn closed(course: &mut Course, alloc: Global) -> Result<Verdict, NoMemory>
 fn at_point(course: &Course, alloc: Global) -> Result<Verdict, NoMemory>
     ensures { IfOk result (VerdictGives (ending_of course.now Point) (state_of course.now)) }
 {
-    Ok(Verdict::Point(point_of(alloc, &course.dict)?))
+    Ok(Verdict::Point(point_of(alloc, course.dict.dictionary())?))
 }
 
 /// The verdict where the objective falls without end along a column.
@@ -76,8 +72,8 @@ fn along(course: &Course, alloc: Global, column: usize, up: bool) -> Result<Verd
     requires { EndFits course.now (Ray column up) }
     ensures { IfOk result (VerdictGives (ending_of course.now (Ray column up)) (state_of course.now)) }
 {
-    let point = point_of(alloc, &course.dict)?;
-    let step = step_of(alloc, &course.dict, column, up)?;
+    let point = point_of(alloc, course.dict.dictionary())?;
+    let step = step_of(alloc, course.dict.dictionary(), column, up)?;
     Ok(Verdict::Unbounded(point, step))
 }
 
@@ -94,22 +90,20 @@ fn verdict(course: &mut Course, alloc: Global, end: End) -> Result<Verdict, NoMe
     }
 }
 
-/// Searches a row system by branching on its pairs, with so many units of work. A node takes one unit when it is opened, and each pivot one.
-///
-/// Without an objective the verdict is the first point that is found, or a tree that leaves none. With one it is the best point with a tree that bounds
-/// the objective, or a ray, or a tree that leaves no point. Each outcome is exactly that of `search_of` in the layer below, as `SearchGives` of
-/// `specs/Searches.antt` says; what it shows of the system is a law there.
-///
-/// `Wide` exactly where a pivot of the search forms a number with absolute value 2^126 or more, `Spent` exactly where it asks for more units. Want of
-/// memory is free.
-pub fn search(alloc: Global, system: &RowSystem, work: u64) -> Result<Answer, WalkFault>
+/// The same as `search`, by the steps that are given. It moves dictionaries by them alone.
+pub fn search_by<S: Steps>(
+    steps: &mut S,
+    alloc: Global,
+    system: &RowSystem,
+    work: u64,
+) -> Result<Answer, WalkFault>
     ensures search { SearchGives system.now work result }
     ensures fits { IfOk result (λ a. VerdictFits system.now.base (length system.now.quantities) (length system.now.pairs) a.verdict) }
 {
     let Ok(mut course) = Course::start(alloc, system, work) else {
         return Err(WalkFault::NoMemory);
     };
-    let end = match run(&mut course, alloc, system) {
+    let end = match run(&mut course, steps, alloc, system) {
         Ok(end) => end,
         Err(fault) => return Err(fault),
     };
@@ -122,4 +116,19 @@ pub fn search(alloc: Global, system: &RowSystem, work: u64) -> Result<Answer, Wa
         }),
         Err(NoMemory) => Err(WalkFault::NoMemory),
     }
+}
+
+/// Searches a row system by branching on its pairs, with so many units of work. A node takes one unit when it is opened, and each pivot one.
+///
+/// Without an objective the verdict is the first point that is found, or a tree that leaves none. With one it is the best point with a tree that bounds
+/// the objective, or a ray, or a tree that leaves no point. Each outcome is exactly that of `search_of` in the layer below, as `SearchGives` of
+/// `specs/Searches.antt` says; what it shows of the system is a law there.
+///
+/// `Wide` exactly where a pivot of the search forms a number with absolute value 2^126 or more, `Spent` exactly where it asks for more units. Want of
+/// memory is free.
+pub fn search(alloc: Global, system: &RowSystem, work: u64) -> Result<Answer, WalkFault>
+    ensures search { SearchGives system.now work result }
+    ensures fits { IfOk result (λ a. VerdictFits system.now.base (length system.now.quantities) (length system.now.pairs) a.verdict) }
+{
+    search_by(&mut FaceSteps, alloc, system, work)
 }

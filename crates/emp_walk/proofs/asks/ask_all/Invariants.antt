@@ -8,7 +8,7 @@ use Rattle.emp_walk.specs.Fits.{IsAt}
 use Rattle.emp_walk.proofs.asks.ask_all.Given as goal
 
 abbrev pub invariant-loop-at : goal.invariant-loop-at
-invariant-loop-at l = record {
+invariant-loop-at g l = record {
   same : asked (asks_from 1 l.fn.system.kinds) (units_left l.fn.budget) (dictionary_of l.fn.dict) ≡ asked (asks_from (l.at + 1) (drop l.at l.system.kinds)) (units_left l.budget) (dictionary_of l.dict);
   at : IsAt l.system (dictionary_of l.dict);
   later : (q : ℕ) → l.at < q → mark_at (dictionary_of l.dict) q ≡ Unasked;

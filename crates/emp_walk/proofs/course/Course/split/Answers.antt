@@ -8,7 +8,7 @@ returns c =
     let i = c.args.k - 1 in
     record {
       kept = c.in_ok-dict.dict;
-      same = c.in_ok-dict.ensures.dictionary;
+      same = c.in_ok-dict.ensures;
       stack = c.in_ok-push.ensures.ok ∙ ap (λ (ps : List (ℕ × ℕ)). c.args.self.now.stack ++ record { dict = c.in_ok-dict.dict; second = (slice_index_or ps i (0, 0)).1 } ∷ []) e;
       asks = ap (λ (ps : List (ℕ × ℕ)). Child (slice_index_or ps i (0, 0)).0) e;
       dict = refl;

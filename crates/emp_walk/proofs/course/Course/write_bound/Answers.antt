@@ -1,6 +1,9 @@
+use Rattle.std.proofs.Common.{ap, ◌∙◌}
+use Rattle.emp_dict.specs.declared.dict.Dict.{Dict}
+use Rattle.emp_decide.specs.Reads.{bound_factors}
 use Rattle.emp_dict.specs.Dicts.{dictionary_of}
 use Rattle.emp_walk.proofs.Leaves.{bound_leaf}
 use Rattle.emp_walk.proofs.course.Course.write_bound.Goals as goal
 
 pub returns-clause-fits : goal.returns-clause-fits
-returns-clause-fits c = bound_leaf (dictionary_of c.args.self.now.dict) c.args.row c.in_ok-factors.factors c.args.self.now.dict.sound c.requires c.in_ok-factors.ensures.value c.in_ok-factors.ensures.narrow
+returns-clause-fits c = bound_leaf (dictionary_of c.args.self.now.dict) c.args.row c.in_ok-factors.factors c.args.self.now.dict.sound c.requires (c.in_ok-factors.ensures.value ∙ ap (λ (x : Dict). bound_factors (dictionary_of x) c.args.row) c.dictionary.ensures) c.in_ok-factors.ensures.narrow
