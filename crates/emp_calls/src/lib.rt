@@ -2,12 +2,6 @@
 #![tactic(auto)]
 
 #[cfg(test)]
-mod certificates;
-#[cfg(test)]
-mod devices;
-#[cfg(test)]
-mod markets;
-#[cfg(test)]
 mod runs;
 #[cfg(test)]
 mod solved_files;

@@ -26,7 +26,7 @@ const PAIRS: &str = "equilibrium vi f x g y";
 const SOLVED: &str = "equilibrium\nwork 3\nx = 2\ny = 1\n";
 
 // The words of a line, which stand apart by one space.
-pub fn words_of(alloc: Global, line: &str) -> Result<Vec<String>, Fail> {
+fn words_of(alloc: Global, line: &str) -> Result<Vec<String>, Fail> {
     let mut words = Vec::new(alloc);
     if !line.is_empty() {
         for word in line.split(' ') {
@@ -37,7 +37,7 @@ pub fn words_of(alloc: Global, line: &str) -> Result<Vec<String>, Fail> {
 }
 
 // A desk that keeps a model and an annotation under the names m and i, and a text under the name c.
-pub fn desk_of(alloc: Global, model: &[u8], info: &[u8]) -> Result<MemoryDesk, Fail> {
+fn desk_of(alloc: Global, model: &[u8], info: &[u8]) -> Result<MemoryDesk, Fail> {
     let mut desk = MemoryDesk::new(alloc);
     desk.put("m", model)?;
     desk.put("i", info)?;
@@ -45,7 +45,7 @@ pub fn desk_of(alloc: Global, model: &[u8], info: &[u8]) -> Result<MemoryDesk, F
     Ok(desk)
 }
 
-pub fn holds(desk: &MemoryDesk, name: &str, expected: &[u8]) -> bool {
+fn holds(desk: &MemoryDesk, name: &str, expected: &[u8]) -> bool {
     match desk.file(name) {
         Some(bytes) => bytes == expected,
         None => false,
@@ -317,10 +317,9 @@ fn apart_ends(
     ends(rt, alloc, line, texts, status, said.as_bytes())
 }
 
-// Each node and each pivot takes one unit before it is made. Three nodes and two pivots are five units: both children go on from the dictionary
-// that the root ended with. A search that makes the root's pivot again for the second child takes a sixth.
+// Each node and each pivot takes one unit before it is made: three nodes and two pivots are five.
 #[test]
-fn counts_pivots(rt: HostRuntime) -> Result<(), Fail> {
+fn takes_units(rt: HostRuntime) -> Result<(), Fail> {
     for (line, status, said) in [
         ("solve m i --work 4", 20, "error 20: work 4 spent\n"),
         ("solve m i --work 5", 1, "no equilibrium\nwork 5\nnodes 3\n"),

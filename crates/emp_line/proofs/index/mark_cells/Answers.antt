@@ -1,6 +1,6 @@
-use Rattle.std.proofs.Common.{length, get_or, arith, refl, subst}
+use Rattle.std.proofs.Common.{get_or, arith, refl}
 use Rattle.emp_line.specs.Sparse.{no_cell}
-use Rattle.emp_line.proofs.Marks.{Marking, marking_next}
+use Rattle.emp_line.proofs.Marks.{marking_next}
 use Rattle.emp_line.proofs.index.mark_cells.Goals as goal
 
 pub passed-own_at-requires-clause-before : goal.passed-own_at-requires-clause-before

@@ -1,5 +1,4 @@
-use Rattle.std.proofs.Common.{ℤ, arith, refl}
-use Rattle.std.proofs.lemmas.Int.{ints}
+use Rattle.std.proofs.Common.{arith, refl}
 use Rattle.emp_line.proofs.laws.example_cells.Goals as goal
 
 pub returns : goal.returns

@@ -1,5 +1,5 @@
 //! Calls of `make`, and calls over the files that they store.
-use crate::runs::{holds, words_of};
+use crate::words::words_of;
 use emp_desk::memory_desk::MemoryDesk;
 use emp_engine::run::run;
 use std::alloc::Global;
@@ -84,7 +84,7 @@ fn saves_markets(rt: HostRuntime) -> Result<(), Fail> {
             .is_some_and(|text| text.starts_with(MODEL.as_bytes()))
     );
     let info = "equilibrium\nmax pi1 q1 d1\nmax pi2 q2 d2\nmax pi3 q3 d3\n";
-    assert!(rt; holds(&desk, "t.info", info.as_bytes()));
+    assert!(rt; desk.file("t.info") == Some(info.as_bytes()));
     ends(
         &rt,
         alloc,

@@ -1,5 +1,5 @@
 //! Certificates that are stored, tested and stored anew, over desks in memory.
-use crate::runs::{holds, words_of};
+use crate::words::words_of;
 use emp_desk::memory_desk::MemoryDesk;
 use emp_engine::run::run;
 use std::alloc::Global;
@@ -96,11 +96,11 @@ fn certifies(
 ) -> Result<(), Fail> {
     let mut desk = desk_with(alloc, texts.0, texts.1, "")?;
     answers(rt, alloc, "solve m i --cert c", &mut desk, status)?;
-    assert!(rt; holds(&desk, "c", cert.as_bytes()), "{cert}");
+    assert!(rt; desk.file("c") == Some(cert.as_bytes()), "{cert}");
     answers(rt, alloc, "check m i c", &mut desk, 0)?;
     assert!(rt; desk.output().ends_with(said.as_bytes()), "{said}");
     answers(rt, alloc, "migrate m i c t", &mut desk, 0)?;
-    assert!(rt; holds(&desk, "t", cert.as_bytes()), "{cert}");
+    assert!(rt; desk.file("t") == Some(cert.as_bytes()), "{cert}");
     Ok(())
 }
 
@@ -155,7 +155,7 @@ fn refused(
         let mut desk = desk_with(alloc, texts.0, texts.1, cert)?;
         answers(rt, alloc, line, &mut desk, status)?;
         assert!(rt; desk.output() == said.as_bytes(), "{said}");
-        assert!(rt; holds(&desk, "c", cert.as_bytes()), "{said}");
+        assert!(rt; desk.file("c") == Some(cert.as_bytes()), "{said}");
         assert!(rt; desk.file("t").is_none(), "{said}");
     }
     Ok(())
@@ -214,7 +214,7 @@ fn what_names_no_pairs_is_stored_with_them(rt: HostRuntime) -> Result<(), Fail> 
     let info = "equilibrium vi f x g y";
     let mut desk = desk_with(rt.alloc(), SPLIT, info, SPLIT_NONE_WITHOUT_PAIRS)?;
     answers(&rt, rt.alloc(), "migrate m i c t", &mut desk, 0)?;
-    assert!(rt; holds(&desk, "t", SPLIT_NONE.as_bytes()));
+    assert!(rt; desk.file("t") == Some(SPLIT_NONE.as_bytes()));
     assert!(rt; desk.output() == b"migrated none\n".as_slice());
     Ok(())
 }

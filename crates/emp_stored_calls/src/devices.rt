@@ -1,6 +1,6 @@
 //! Calls to the desk that fail, each in turn, and texts that are cut, each at every place.
 use crate::certificates::{APART, FIRMS, KINK, NONE, RAY, REPORT, SPLIT, TWO, desk_with};
-use crate::runs::{holds, words_of};
+use crate::words::words_of;
 use emp_desk::memory_desk::MemoryDesk;
 use emp_engine::run::run;
 use std::alloc::Global;
@@ -37,9 +37,9 @@ fn leaves(
 }
 
 fn is_kept(desk: &MemoryDesk, files: (&str, &str, &str)) -> bool {
-    holds(desk, "m", files.0.as_bytes())
-        && holds(desk, "i", files.1.as_bytes())
-        && holds(desk, "c", files.2.as_bytes())
+    desk.file("m") == Some(files.0.as_bytes())
+        && desk.file("i") == Some(files.1.as_bytes())
+        && desk.file("c") == Some(files.2.as_bytes())
 }
 
 #[test]
