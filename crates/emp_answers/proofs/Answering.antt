@@ -1,5 +1,5 @@
 -- What an answer over texts comes to.
-use Rattle.std.proofs.Common.{◌≡◌, ◌≢◌, ℕ, ◌<◌, ◌≤◌, true, false, List, [], ◌∷◌, length, Option, Some, Result, Ok, Err, IfOk, get_or, arith, subst, sym, ap₂, ◌∙◌}
+use Rattle.std.proofs.Common.{◌≡◌, ◌≢◌, ℕ, ◌<◌, ◌≤◌, true, false, List, [], ◌∷◌, length, Some, Result, IfOk, get_or, arith, subst, sym, ap₂, ◌∙◌}
 use Rattle.emp_list.specs.declared.memory.NoMemory.{NoMemory}
 use Rattle.emp_ast.specs.declared.model.Model.{Model}
 use Rattle.emp_ast.specs.declared.annot.Annot.{Annot}
@@ -19,7 +19,7 @@ use Rattle.emp_command.specs.Words.{Asked}
 use Rattle.emp_command.specs.Course.{Outcome, refusal}
 use Rattle.emp_lines.specs.TextLines.{not_yet_line, model_line, info_line}
 use Rattle.emp_answers.specs.declared.said.Answer.{Answer}
-use Rattle.emp_answers.specs.Answers.{saying, is_built, Solves, Checks, Migrates, Does, prints, solves, checks, migrates, Answers, unbuilt, bad_model, bad_info, done}
+use Rattle.emp_answers.specs.Answers.{is_built, Solves, Checks, Migrates, Does, prints, solves, checks, migrates, Answers, unbuilt, bad_model, bad_info, done}
 use Rattle.emp_answers.specs.Outcomes.{outcome_of, Prints, OverInfo, refuses, reads}
 use Rattle.emp_answers.proofs.Oks.{ok_map}
 

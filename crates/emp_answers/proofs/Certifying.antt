@@ -1,9 +1,8 @@
 -- What `check` and `migrate` answer, step by step.
-use Rattle.std.proofs.Common.{◌≡◌, ◌≢◌, ◌⊎◌, inl, inr, ℕ, ◌<◌, ◌≤◌, ◌+◌, ◌-◌, List, [], ◌∷◌, length, All, map, slice_index_or, Some, Result, Ok, Err, IfOk, refl, subst, sym, ap, ap₂, ◌∙◌, arith}
+use Rattle.std.proofs.Common.{◌≡◌, ◌≢◌, ◌⊎◌, inl, inr, ℕ, ◌<◌, ◌≤◌, List, [], ◌∷◌, length, All, slice_index_or, Some, Result, IfOk, subst, sym, ap, ap₂, ◌∙◌, arith}
 use Rattle.emp_list.specs.declared.memory.NoMemory.{NoMemory}
 use Rattle.emp_ast.specs.declared.model.Model.{Model}
 use Rattle.emp_ast.specs.declared.annot.Annot.{Annot}
-use Rattle.emp_command.specs.Words.{Asked}
 use Rattle.emp_command.specs.Course.{Outcome, refusal}
 use Rattle.emp_rows.specs.declared.system.RowSystem.{RowSystem}
 use Rattle.emp_rows.specs.declared.system.Kind.{Kind}
@@ -14,7 +13,7 @@ use Rattle.emp_cert_text.specs.declared.read.CertFault.{CertFault}
 use Rattle.emp_cert_text.specs.declared.read.CertFault.TheVariants as CertWords
 use Rattle.emp_cert_text.specs.Text.{cert_text}
 use Rattle.emp_cert_text.specs.Reading.{ReadFails}
-use Rattle.emp_check.specs.Checks.{checked, SizesAre}
+use Rattle.emp_check.specs.Checks.{checked}
 use Rattle.emp_check.specs.declared.outcome.Why.{Why}
 use Rattle.emp_check.specs.declared.outcome.Checked.TheVariants.{Rejected, Wide as WideSum}
 use Rattle.emp_cert_text.specs.Writing.{longest}
@@ -23,7 +22,7 @@ use Rattle.emp_cert_lines.specs.CertLines.{cert_line, long_line, rejected_line, 
 use Rattle.emp_solution.specs.declared.state.Stated.{Stated}
 use Rattle.emp_solution.specs.Stated.{IsStated}
 use Rattle.emp_answers.specs.declared.said.Answer.{Answer}
-use Rattle.emp_answers.specs.Answers.{saying, cert_stores, CertFits, CertIsLong, Refuses, Unaccepted, no_rows, bad_text, rejected, wide_sum, IsAccepted, Checks, unaccepted, accepted, Migrates, unmigrated, migrated_long, migrated}
+use Rattle.emp_answers.specs.Answers.{saying, cert_stores, CertFits, CertIsLong, Unaccepted, bad_text, rejected, wide_sum, IsAccepted, Checks, accepted, Migrates, migrated_long, migrated}
 use Rattle.emp_answers.specs.Outcomes.{outcome_of, StoredAnew}
 use Rattle.emp_answers.proofs.Oks.{ok_map}
 

@@ -3,8 +3,7 @@ use Rattle.std.proofs.Common.{◌≡◌, ◌≢◌, Result, IfOk, subst, sym}
 use Rattle.emp_list.specs.declared.memory.NoMemory.{NoMemory}
 use Rattle.emp_ast.specs.declared.model.Model.{Model}
 use Rattle.emp_ast.specs.declared.annot.Annot.{Annot}
-use Rattle.emp_command.specs.Words.{Asked}
-use Rattle.emp_command.specs.Course.{Outcome, refusal}
+use Rattle.emp_command.specs.Course.{refusal}
 use Rattle.emp_owner.specs.declared.owned.OwnFault.{OwnFault}
 use Rattle.emp_owner.specs.declared.owned.OwnFault.TheVariants as OwnWords
 use Rattle.emp_owner.specs.Settled.{IsKept, IsFirstBroken}

@@ -1,5 +1,5 @@
 -- What `solve` answers, step by step.
-use Rattle.std.proofs.Common.{◌≡◌, ◌≢◌, ◌⊎◌, inl, inr, ℕ, List, [], ◌∷◌, map, Option, Result, Ok, Err, IfOk, refl, subst, sym, ap}
+use Rattle.std.proofs.Common.{◌≡◌, ◌≢◌, inl, inr, ℕ, List, Result, Ok, Err, IfOk, subst, sym}
 use Rattle.emp_list.specs.declared.memory.NoMemory.{NoMemory}
 use Rattle.emp_ast.specs.declared.model.Model.{Model}
 use Rattle.emp_ast.specs.declared.annot.Annot.{Annot}
@@ -10,11 +10,11 @@ use Rattle.emp_subst.specs.declared.fault.FillFault.TheVariants as FillWords
 use Rattle.emp_cert.specs.declared.cert.Found.{Found}
 use Rattle.emp_walk.specs.declared.fault.WalkFault.{WalkFault}
 use Rattle.emp_walk.specs.declared.fault.WalkFault.TheVariants as WalkWords
-use Rattle.emp_walk.specs.Founds.{CertGives, FoundGives}
+use Rattle.emp_walk.specs.Founds.{CertGives}
 use Rattle.emp_solution.specs.declared.state.Stated.{Stated}
 use Rattle.emp_solution.specs.Stated.{IsStated}
 use Rattle.emp_answers.specs.declared.said.Answer.{Answer}
-use Rattle.emp_answers.specs.Answers.{walk_status, walk_line, IsReport, cert_stores, CertFits, CertIsLong, Refuses, Solves, refused, unfinished, unfilled, too_long, answered}
+use Rattle.emp_answers.specs.Answers.{walk_status, walk_line, IsReport, Refuses, Solves, refused, unfinished, unfilled, too_long, answered}
 use Rattle.emp_answers.specs.Outcomes.{outcome_of, Delivered, ReportGives, ValueRefused}
 use Rattle.emp_answers.proofs.Oks.{ok_map}
 

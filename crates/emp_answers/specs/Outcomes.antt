@@ -1,5 +1,5 @@
 -- What an answer of the code comes to. This serves proofs; no meaning cites it.
-use Rattle.std.specs.Prelude.{◌≡◌, ◌≢◌, ◌⊎◌, ℕ, ◌<◌, ◌≤◌, List, [], ◌∷◌, ◌++◌, length, map, Option, Some, None, Result, Ok, Err}
+use Rattle.std.specs.Prelude.{◌≡◌, ◌≢◌, ◌⊎◌, ℕ, ◌<◌, ◌≤◌, List, [], ◌∷◌, ◌++◌, length, map, Option, None, Result, Ok, Err}
 use Rattle.emp_command.specs.declared.words.Verb.{Verb}
 use Rattle.emp_command.specs.declared.words.Verb.TheVariants.{Solve, Check, Print, Make, Migrate, Pieces}
 use Rattle.emp_command.specs.Words.{Asked}
@@ -22,7 +22,6 @@ use Rattle.emp_lines.specs.TextLines.{info_line}
 use Rattle.emp_lines.specs.ClassLines.{value_line}
 use Rattle.gms_print.specs.Canonical.{IsCanonical}
 use Rattle.info_print.specs.Canonical.{info_text}
-use Rattle.emp_owner.specs.declared.owned.Owned.{Owned}
 use Rattle.emp_owner.specs.Settled.{IsKept, IsFirstBroken, AreOwned}
 use Rattle.emp_cert.specs.declared.cert.Cert.{Cert}
 use Rattle.emp_cert.specs.declared.cert.Found.{Found}

@@ -1,5 +1,5 @@
 -- A refused row refutes, and the row of a least objective bounds.
-use Rattle.std.proofs.Common.{◌≡◌, ◌≢◌, ℕ, zero, suc, ◌+◌, ◌-◌, ◌<◌, ◌≤◌, ◌⊎◌, inl, inr, ℤ, pos, negsuc, neg_ℤ, ◌+ℤ◌, ◌-ℤ◌, ◌*ℤ◌, ◌≤ℤ◌, ◌<ℤ◌, true, List, [], ◌∷◌, ◌++◌, length, map, get_or, All, Some, arith, refl, sym, ap, ap₂, subst, ◌∙◌}
+use Rattle.std.proofs.Common.{◌≡◌, ◌≢◌, ℕ, ◌+◌, ◌-◌, ◌<◌, ◌≤◌, ◌⊎◌, inl, inr, ℤ, pos, negsuc, neg_ℤ, ◌+ℤ◌, ◌-ℤ◌, ◌*ℤ◌, ◌≤ℤ◌, ◌<ℤ◌, true, List, [], ◌∷◌, ◌++◌, length, map, get_or, All, Some, arith, refl, sym, ap, ap₂, subst, ◌∙◌}
 use Rattle.std.proofs.lemmas.List.{get_or-map, length-map, length-append}
 use Rattle.std.proofs.lemmas.List.Elements.{All-get_or}
 use Rattle.std.proofs.lemmas.Bool.{cases_eq}
@@ -28,7 +28,7 @@ use Rattle.emp_dict.specs.declared.label.Choice.TheVariants.{Stop}
 use Rattle.emp_dict.specs.Dictionary.{Dictionary, IsSound, line_at, cell_at, row_label, column_label, mark_at, stands, affine_value, no_affine, objective_value, quantities_from, objective_labels}
 use Rattle.emp_dict.specs.Chosen.{chosen, aimed_row, aimed_way}
 use Rattle.emp_dict.proofs.Labels.{or_cases, stands_place, Place}
-use Rattle.emp_dict.proofs.Starts.{label_quantity}
+use Rattle.emp_dict.proofs.Starts.{length-quantities, label_quantity}
 use Rattle.emp_step.specs.Levels.{MayBeColumn, IsLevel}
 use Rattle.emp_decide.specs.Reads.{factors, farkas_by, farkas_factors, bound_weight, bound_factors}
 use Rattle.emp_decide.specs.Laws.{started_of, worth, IsDictionaryOf, IsToBeZero, FixedOn, IsRefused}
@@ -139,10 +139,6 @@ refused_refutes s p d r k t l on x = go x.stops
         (refutes_by s p d t l on (Down r) x.below k x.label q.1 (let h = q.0 in omega (arith, ints)) (fits_free (sort_on (is_on s p k) (get_or s.kinds (k - 1) Zero)) (negsuc 0 *ℤ (line_at d r).denom) q.2))
 
 -- ---- bounded
-length-quantities : (at n : ℕ) → length (quantities_from at n) ≡ n
-length-quantities at zero = refl
-length-quantities at (suc n) = ap suc (length-quantities (at + 1) n)
-
 rows_with : (s : RowSystem) (o : Affine) → s.objective ≡ Some o → length (started_of s).rows ≡ length s.quantities + 1
 rows_with s o e = ap (λ x. length (quantities_from 1 (length s.quantities) ++ objective_labels x)) e ∙ (length-append (quantities_from 1 (length s.quantities)) (Objective ∷ []) ∙ ap (λ n. n + 1) (length-quantities 1 (length s.quantities)))
 

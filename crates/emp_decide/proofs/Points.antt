@@ -1,5 +1,5 @@
 -- A dictionary's point, and the step of a column, tell what each label is worth.
-use Rattle.std.proofs.Common.{◌≡◌, ◌≢◌, ℕ, zero, suc, ◌+◌, ◌-◌, ◌<◌, ◌⊎◌, inl, inr, ℤ, pos, ◌+ℤ◌, ◌*ℤ◌, ◌<ℤ◌, Bool, true, false, cond, List, [], ◌∷◌, length, map, get_or, Option, Some, None, arith, refl, sym, ap, ap₂, subst, ◌∙◌}
+use Rattle.std.proofs.Common.{◌≡◌, ◌≢◌, ℕ, ◌+◌, ◌-◌, ◌<◌, ◌⊎◌, inl, inr, ℤ, pos, ◌+ℤ◌, ◌*ℤ◌, ◌<ℤ◌, Bool, true, false, cond, List, [], ◌∷◌, length, map, get_or, Option, Some, None, arith, refl, sym, ap, ap₂, subst, ◌∙◌}
 use Rattle.std.proofs.lemmas.List.{ext_get_or, get_or-map, length-map}
 use Rattle.std.proofs.lemmas.Bool.{cases_eq}
 use lib.IntN.{zero-*ℤ, *ℤ-zero}
@@ -15,7 +15,7 @@ use Rattle.emp_num.specs.FracSpec.{IsQuotient}
 use Rattle.emp_num.specs.declared.frac.Frac.{Frac}
 use Rattle.emp_rows.specs.declared.affine.Affine.{Affine}
 use Rattle.emp_rows.specs.declared.system.RowSystem.{RowSystem}
-use Rattle.emp_turns.specs.Choice.{Way, toward, Up as upward, Down as downward}
+use Rattle.emp_turns.specs.Choice.{toward}
 use Rattle.emp_turns.specs.Layout.{RowsHold, table_of}
 use Rattle.emp_turns.proofs.Layouts.{is_table, row_is, column_is, denom_is, constant_is, cell_is, holds_is}
 use Rattle.emp_turns.proofs.Systems.{Filled, fill, row_still}
@@ -23,10 +23,10 @@ use Rattle.emp_turns.proofs.Steps.{Direction, direction}
 use Rattle.emp_dict.specs.declared.label.Label.{Label}
 use Rattle.emp_dict.specs.declared.label.Label.TheVariants.{Base, Quantity, Objective}
 use Rattle.emp_dict.specs.Dictionary.{Dictionary, IsSound, IsLabel, RowsTrue, line_at, cell_at, row_label, column_label, row_of, label_eq, stands, bases_from, affine_value, objective_value, no_affine}
-use Rattle.emp_dict.specs.Chosen.{labels, layout_of, index_in}
+use Rattle.emp_dict.specs.Chosen.{labels, layout_of, index_in, way_by}
 use Rattle.emp_dict.proofs.Labels.{or_cases, stands_place, Place, label_eq-false, eq-label_eq}
 use Rattle.emp_dict.proofs.Layouts.{layout_is}
-use Rattle.emp_dict.proofs.Starts.{starts_tell, label_base}
+use Rattle.emp_dict.proofs.Starts.{length-bases, base_at, starts_tell, label_base}
 use Rattle.emp_step.proofs.Labels.{row_found, row_none}
 use Rattle.emp_step.proofs.Marks.{base_of}
 use Rattle.emp_decide.specs.Reads.{value_by, value_of, IsPointOf, way, rate_by, rate_of, IsStepOf}
@@ -58,15 +58,6 @@ same_affine : (a : Affine) (c m n k : ℤ) (xs ys : List ℤ) → c *ℤ n ≡ m
 same_affine a c m n k xs ys e h =
     by_ring (a.constant ∷ c ∷ dot a.cells xs ∷ n ∷ []) ((var 0 ⊗ var 1 ⊕ var 2) ⊗ var 3) (var 0 ⊗ (var 1 ⊗ var 3) ⊕ var 2 ⊗ var 3) refl
     ∙ (ap₂ (λ y z. a.constant *ℤ y +ℤ z) e h ∙ by_ring (a.constant ∷ m ∷ dot a.cells ys ∷ k ∷ []) (var 0 ⊗ (var 1 ⊗ var 3) ⊕ var 2 ⊗ var 3) ((var 0 ⊗ var 1 ⊕ var 2) ⊗ var 3) refl)
-
-base_at : (at n j : ℕ) → j < n → get_or (bases_from at n) j Objective ≡ Base (at + j)
-base_at at zero j h = absurd (omega arith)
-base_at at (suc n) zero h = ap Base (omega arith)
-base_at at (suc n) (suc j) h = base_at (at + 1) n j (omega arith) ∙ ap Base (omega arith)
-
-length-bases : (at n : ℕ) → length (bases_from at n) ≡ n
-length-bases at zero = refl
-length-bases at (suc n) = ap suc (length-bases (at + 1) n)
 
 module _ (s : RowSystem) (d : Dictionary) (t : IsDictionaryOf s d) (m c n k : ℤ) (xs : List ℤ) (y : Label → ℤ) (true_rows : RowsTrue d m y) (count : length xs ≡ s.base) (heads : c *ℤ n ≡ m *ℤ k) (bases : (j : ℕ) → j < s.base → cell xs j *ℤ n ≡ y (Base (j + 1)) *ℤ k) where
   abbrev ys : List ℤ
@@ -173,10 +164,6 @@ points_tell s d fs x t p st =
         by_ring (v (index_in d w) ∷ (line_at d i).denom ∷ []) (var 0 ⊗ var 1) (var 1 ⊗ var 0) refl ∙ (ap (λ u. (line_at d i).denom *ℤ v (index_in d u)) (sym r.label) ∙ rows i r.below)
 
 -- ---- the step of a column
-abbrev way_by : Bool → Way
-way_by true = upward
-way_by false = downward
-
 way_is : (up : Bool) → toward (way_by up) ≡ way up
 way_is true = refl
 way_is false = refl

@@ -29,7 +29,8 @@ use Rattle.emp_step.proofs.Looks.{chosen_stop}
 use Rattle.emp_step.proofs.Marks.{mark_base, mark_quantity, base_of, quantity_of}
 use Rattle.emp_decide.specs.Reads.{put, spread, factors}
 use Rattle.emp_decide.specs.Laws.{worth, IsDictionaryOf}
-use Rattle.emp_decide.proofs.Factors.{quantity_value, Fits, Empty, length-put, dot-spread, dot-put_zeros, cell_spread_none, cell_spread, cell_put, cell_put_none}
+use Rattle.emp_decide.specs.Rows.{HasPlace}
+use Rattle.emp_decide.proofs.Factors.{quantity_value, Empty, length-put, dot-spread, dot-put_zeros, cell_spread_none, cell_spread, cell_put, cell_put_none}
 
 -- ---- what a dictionary of a system says at a base vector
 pub identity : (s : RowSystem) (d : Dictionary) → IsDictionaryOf s d → (c : ℤ) (xs : List ℤ) → length xs ≡ s.base → RowsTrue d c (worth s c xs)
@@ -45,18 +46,18 @@ row_total d s f r b =
 
 -- ---- the combination of a row's factors
 module _ (s : RowSystem) (d : Dictionary) (t : IsDictionaryOf s d) (l : IsLevel d) (r : ℕ) (below : r < length d.rows) (own across : ℤ) where
-  column_fits : (n : ℕ) → n ≡ length d.marks → (j : ℕ) → j < length d.columns → Fits n (column_label d j)
+  column_fits : (n : ℕ) → n ≡ length d.marks → (j : ℕ) → j < length d.columns → HasPlace n (column_label d j)
   column_fits n e j b = go (column_label d j) refl
     where
-      go : (w : Label) → column_label d j ≡ w → Fits n w
+      go : (w : Label) → column_label d j ≡ w → HasPlace n w
       go (Base c) q = tt
       go (Quantity k) q = let h = quantity_of (length d.columns) (length d.marks) (length d.rows) k (subst (λ w. IsLabel (length d.columns) (length d.marks) (length d.rows) w) q (t.sound.column_labels j b)) in (h.0, let m = h.1 in omega arith)
       go Objective q = tt
 
-  row_fits : (n : ℕ) → n ≡ length d.marks → Fits n (row_label d r)
+  row_fits : (n : ℕ) → n ≡ length d.marks → HasPlace n (row_label d r)
   row_fits n e = go (row_label d r) refl
     where
-      go : (w : Label) → row_label d r ≡ w → Fits n w
+      go : (w : Label) → row_label d r ≡ w → HasPlace n w
       go (Base c) q = tt
       go (Quantity k) q = let h = quantity_of (length d.columns) (length d.marks) (length d.rows) k (subst (λ w. IsLabel (length d.columns) (length d.marks) (length d.rows) w) q (t.sound.row_labels r below)) in (h.0, let m = h.1 in omega arith)
       go Objective q = tt

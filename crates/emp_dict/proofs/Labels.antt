@@ -17,7 +17,7 @@ label_eq-true Objective (Base b) h = cc
 label_eq-true Objective (Quantity k) h = cc
 label_eq-true Objective Objective h = refl
 
-label_same : (w : Label) → label_eq w w ≡ true
+pub label_same : (w : Label) → label_eq w w ≡ true
 label_same (Base b) = eq-eqb b b refl
 label_same (Quantity k) = eq-eqb k k refl
 label_same Objective = refl

@@ -25,15 +25,15 @@ use Rattle.emp_dict.specs.Laws.{StartsAre}
 use Rattle.emp_dict.proofs.Labels.{place_stands, or_first, or_second}
 
 -- ---- the lists
-length-bases : (at n : ℕ) → length (bases_from at n) ≡ n
+pub length-bases : (at n : ℕ) → length (bases_from at n) ≡ n
 length-bases at zero = refl
 length-bases at (suc n) = ap suc (length-bases (at + 1) n)
 
-length-quantities : (at n : ℕ) → length (quantities_from at n) ≡ n
+pub length-quantities : (at n : ℕ) → length (quantities_from at n) ≡ n
 length-quantities at zero = refl
 length-quantities at (suc n) = ap suc (length-quantities (at + 1) n)
 
-base_at : (at n j : ℕ) → j < n → get_or (bases_from at n) j Objective ≡ Base (at + j)
+pub base_at : (at n j : ℕ) → j < n → get_or (bases_from at n) j Objective ≡ Base (at + j)
 base_at at zero j h = absurd (omega arith)
 base_at at (suc n) zero h = ap Base (sym (add-zero at))
 base_at at (suc n) (suc j) h = base_at (at + 1) n j (omega arith) ∙ ap Base (let e : at + 1 + j ≡ at + suc j = omega arith in e)

@@ -1,5 +1,5 @@
 -- How many units the work of a node takes.
-use Rattle.std.proofs.Common.{◌≡◌, ◌≢◌, ℕ, zero, suc, ◌+◌, ◌-◌, ◌^◌, ◌<◌, ◌≤◌, List, [], ◌∷◌, length, get_or, set, replicate, Option, Some, None, arith, refl, sym, ap, ap₂, subst, ◌∙◌}
+use Rattle.std.proofs.Common.{◌≡◌, ◌≢◌, ℕ, zero, suc, ◌+◌, ◌-◌, ◌^◌, ◌<◌, ◌≤◌, List, [], ◌∷◌, length, get_or, set, Option, Some, None, arith, refl, sym, ap, ap₂, subst, ◌∙◌}
 use Rattle.std.proofs.lemmas.List.{length-set, get_or-set_other}
 use Rattle.emp_rows.specs.declared.affine.Affine.{Affine}
 use Rattle.emp_rows.specs.declared.system.Kind.{Kind}
@@ -19,7 +19,7 @@ use Rattle.emp_decide.proofs.Decides.{has_objective}
 use Rattle.emp_search.specs.Search.{Ask, fixes, step_of, ask_of, asks_from, on_held, and_then, asked, worked_by, worked}
 use Rattle.emp_search.specs.Nodes.{IsNode}
 use Rattle.emp_search.proofs.Working.{AllDone, AskedAs}
-use Rattle.emp_search.proofs.Rooted.{start_node}
+use Rattle.emp_search.proofs.Rooted.{start_node, unasked_at}
 use Rattle.emp_ends.specs.Ends.{step_units}
 use Rattle.emp_ends.proofs.Sums.{times}
 
@@ -94,11 +94,6 @@ root_few s (t ∷ ts) k n d r above within u = go t (λ m e ready free. root_few
         few_then (step_units s) (times (length ts) (step_units s)) n (asked (asks_from (k + 1) ts)) (raised n k d) (step_few s n d (raised n k d) r (raise_few n k d r.sound r.level)) (λ q.
         let same : (raised n k d).dictionary.marks ≡ set d.marks (k - 1) Required = steps_mark.raise n k d ∙ ap (λ x. (mark_by x k Required d).marks) q in
         more (raised n k d).left (raised n k d).dictionary (ready_after s k Required d (raised n k d) r (raise_level n k d r.sound r.level number unasked) (raise_keeps_all n k d r.sound r.level) same) (unasked_after k Required d (raised n k d).dictionary above same u))
-
-unasked_at : (n i : ℕ) → get_or (replicate n Unasked) i Unasked ≡ Unasked
-unasked_at zero i = refl
-unasked_at (suc n) zero = refl
-unasked_at (suc n) (suc i) = unasked_at n i
 
 -- as many units as all quantities may take
 abbrev pub asks_units : RowSystem → ℕ

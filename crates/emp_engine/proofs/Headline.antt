@@ -37,6 +37,7 @@ use Rattle.emp_subst.specs.Fill.{spread}
 use Rattle.emp_report.specs.Report.{unbounded_report}
 use Rattle.emp_answers.specs.Answers.{state_status, Refuses, bad_owner, unstated, walk_status, ReportOf, Solves, refused, unfinished, unfilled, too_long, answered, Unaccepted, no_rows, bad_text, rejected, wide_sum, Checks, unaccepted, accepted, Migrates, unmigrated, migrated_long, migrated, Does, prints, solves, checks, migrates, Answers, unbuilt, bad_model, bad_info, done}
 use Rattle.emp_engine.specs.Run.{TextsSay, Grows, IsSolution, point_report, SaysPoint, ShowsNone, SaysRay, IsAnswer, over_texts, market, IsAnswered}
+use Rattle.emp_engine.proofs.Verbs.{solve_not_make}
 use Rattle.emp_makes.specs.Makes.{Makes}
 use Rattle.emp_makes.proofs.Ends.{makes_end}
 
@@ -90,18 +91,6 @@ done_at words x r ts o asks e (bad_info mt it rest m f b t n h) (inr l) = absurd
 done_at words x r ts o asks e (done mt it rest m a p b t i h) l =
     let f = first_two x r.files mt it rest e in
     record { model = m; annot = a; rest = rest; others = f.others; texts = texts_say words x r mt it rest m a asks f t i; request = refl; others_are = refl; rest_is = f.rest_is; does = h }
-
-pub solve_not_make : Solve ≡ Make → ⊥
-solve_not_make e = cc
-
-pub print_not_make : Print ≡ Make → ⊥
-print_not_make e = cc
-
-pub check_not_make : Check ≡ Make → ⊥
-check_not_make e = cc
-
-pub migrate_not_make : Migrate ≡ Make → ⊥
-migrate_not_make e = cc
 
 -- a market's statuses
 pub made_status : (words : List (List ℕ)) (x y : Contents) (end : ℕ) (n : IsAnswered words x y end) → n.request.verb ≡ Make → Makes n.request n.outcome → (end ≡ 0) ⊎ ((end ≡ 19) ⊎ (end ≡ 20))

@@ -1,7 +1,7 @@
 -- How a call ends that delivered an answer over its texts.
 use Rattle.std.proofs.Common.{◌≡◌, ◌≢◌, ◌⊎◌, ℕ, true, inl, inr, List, [], ◌∷◌, Option, None, Some, arith, refl, ap, subst}
 use Rattle.emp_desk.specs.Desk.{Place, stores, Contents, Told, KeepsAll, NoneFalls}
-use Rattle.emp_command.specs.declared.words.Verb.TheVariants.{Solve, Check, Print, Make, Migrate, Pieces}
+use Rattle.emp_command.specs.declared.words.Verb.TheVariants.{Make}
 use Rattle.emp_command.specs.declared.refusal.Refusal.TheVariants.{NoMemory}
 use Rattle.emp_command.specs.Words.{Asked, Asks, solve, check, print, make, migrate, pieces}
 use Rattle.emp_command.specs.Course.{Outcome, refusal, IsInRange, IsDue, answered, Delivers}
@@ -9,7 +9,7 @@ use Rattle.emp_command.specs.Refusals.{line_of, HoldTexts}
 use Rattle.emp_command.specs.Deliveries.{SomeStoreRose}
 use Rattle.emp_command.proofs.Telling.{told_map, rose_second}
 use Rattle.emp_engine.specs.Run.{IsMake, is_market_status, IsAnswer, market, SomeWriteRose, written}
-use Rattle.emp_engine.proofs.Verbs.{make_verb}
+use Rattle.emp_engine.proofs.Verbs.{make_verb, solve_not_make, print_not_make, check_not_make, migrate_not_make, pieces_not_make}
 use Rattle.emp_engine.specs.Ends.{SayCause, Ends}
 use Rattle.emp_engine.proofs.Ending.{kept, delivered_ends, starved_ends}
 use Rattle.emp_engine.proofs.Statuses.{answer_late, not_caused, answer_named, AreNamed}
@@ -33,29 +33,14 @@ module _ (words : List (List ℕ)) (f0 f1 f2 : Place → ℕ) (t0 t1 t2 : Option
       delivered_ends words f0 f1 f2 t0 t1 t2 first keeps o end l.status (not_caused o.status 12 l.cause refl (λ k. omega arith)) (λ k. absurd (not_caused o.status 11 l.cause refl (λ j. omega arith) k)) m
       (stores_write o.stores (answer_named r texts o a)) (answer_due texts o hold a) del cause
 
-solve_make : Solve ≡ Make → ⊥
-solve_make e = cc
-
-print_make : Print ≡ Make → ⊥
-print_make e = cc
-
-check_make : Check ≡ Make → ⊥
-check_make e = cc
-
-migrate_make : Migrate ≡ Make → ⊥
-migrate_make e = cc
-
-pieces_make : Pieces ≡ Make → ⊥
-pieces_make e = cc
-
 -- a request of a market names no file
 pub market_files : (words : List (List ℕ)) (r : Asked) → Asks words r → r.verb ≡ Make → r.files ≡ []
 market_files words r (make t k seed firms os o a b c) e = refl
-market_files words r (solve m i os o n a b c) e = absurd (solve_make e)
-market_files words r (print m i a b) e = absurd (print_make e)
-market_files words r (check m i c a b d) e = absurd (check_make e)
-market_files words r (migrate m i c o a b d g) e = absurd (migrate_make e)
-market_files words r (pieces m i os n a b c) e = absurd (pieces_make e)
+market_files words r (solve m i os o n a b c) e = absurd (solve_not_make e)
+market_files words r (print m i a b) e = absurd (print_not_make e)
+market_files words r (check m i c a b d) e = absurd (check_not_make e)
+market_files words r (migrate m i c o a b d g) e = absurd (migrate_not_make e)
+market_files words r (pieces m i os n a b c) e = absurd (pieces_not_make e)
 
 no_texts : (fs : List (List ℕ)) (t : Option Contents) → fs ≡ [] → Told (HoldTexts 1 fs []) t t
 no_texts fs None e = tt

@@ -13,7 +13,8 @@ use Rattle.emp_makes.proofs.Ends.{made_shows}
 use Rattle.emp_engine.specs.Run.{IsMake, IsAnswer, over_texts, market, IsAnswered, HoldsMarket, ShowsMarket}
 use Rattle.emp_engine.proofs.Verbs.{make_verb}
 use Rattle.emp_engine.proofs.Saying.{market_files}
-use Rattle.emp_engine.proofs.Headline.{solve_not_make, print_not_make, check_not_make, migrate_not_make, not_verbs, grows, made_status}
+use Rattle.emp_engine.proofs.Verbs.{solve_not_make, print_not_make, check_not_make, migrate_not_make}
+use Rattle.emp_engine.proofs.Headline.{not_verbs, grows, made_status}
 
 made_built : (r : Asked) → r.verb ≡ Make → is_built r ≡ true
 made_built r e = ap is_built_for e

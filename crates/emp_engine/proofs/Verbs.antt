@@ -1,7 +1,7 @@
 -- The verb that words ask for.
 use Rattle.std.proofs.Common.{◌≡◌, ℕ, true, false, List, [], ◌∷◌, codes, refl, sym, ap, ◌∙◌, bytes_eq}
 use Rattle.std.proofs.lemmas.Bool.{false≢true}
-use Rattle.emp_command.specs.declared.words.Verb.TheVariants.{Solve, Check, Print, Make, Migrate}
+use Rattle.emp_command.specs.declared.words.Verb.TheVariants.{Solve, Check, Print, Make, Migrate, Pieces}
 use Rattle.emp_command.specs.Words.{Asked, Asks, solve, check, print, make, migrate, pieces}
 use Rattle.emp_engine.specs.Run.{IsSolve, IsPrint, IsCheck, IsMigrate, IsMake}
 
@@ -50,3 +50,19 @@ make_verb words r s (solve m i os o n a b c) = absurd (other_words (codes "solve
 make_verb words r s (check m i c a b d) = absurd (other_words (codes "check") (codes "make") (m ∷ i ∷ c ∷ []) s.0 refl refl s.1)
 make_verb words r s (migrate m i c o a b d e) = absurd (other_words (codes "migrate") (codes "make") (m ∷ i ∷ c ∷ o ∷ []) s.0 refl refl s.1)
 make_verb words r s (pieces m i os n a b c) = absurd (other_words (codes "pieces") (codes "make") (m ∷ i ∷ os) s.0 refl refl s.1)
+
+-- ---- verbs differ
+pub solve_not_make : Solve ≡ Make → ⊥
+solve_not_make e = cc
+
+pub print_not_make : Print ≡ Make → ⊥
+print_not_make e = cc
+
+pub check_not_make : Check ≡ Make → ⊥
+check_not_make e = cc
+
+pub migrate_not_make : Migrate ≡ Make → ⊥
+migrate_not_make e = cc
+
+pub pieces_not_make : Pieces ≡ Make → ⊥
+pieces_not_make e = cc

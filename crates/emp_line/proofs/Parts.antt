@@ -7,9 +7,8 @@ use Rattle.emp_num.specs.Exact.{IsNarrow, IsWide}
 use Rattle.emp_num.specs.declared.exact.Wide.{Wide as WideNumber}
 use Rattle.emp_line.specs.Place.{StepGives, moved_wide}
 use Rattle.emp_line.specs.declared.line.Line.{Line}
-use Rattle.emp_algebra.specs.Vector.{cell, scale}
-use Rattle.emp_algebra.proofs.Vectors.{length-scale}
-use Rattle.emp_line.specs.Pivot.{sign, turned, Factors, factors, is_wide, step_wide, steps_wide, combination_wide, combined, reduced, moved}
+use Rattle.emp_algebra.specs.Vector.{cell}
+use Rattle.emp_line.specs.Pivot.{Factors, factors, is_wide, step_wide, steps_wide, combination_wide, combined, reduced, moved}
 use Rattle.emp_line.proofs.Steps.{narrow_from, zero_yes, zero_no, or_left, or_right, wide_left, wide_right, wide_sum, none_wide}
 
 pub left_narrow : (f : Factors) (a b : ℤ) → step_wide f a b ≡ false → IsNarrow (f.own *ℤ a)
@@ -35,9 +34,6 @@ sum_gives f a b l r (Err w) el hl er hr h =
     wide_sum f a b (subst IsWide e h)
 
 pub ruleset stepping = (to_z-of_z, wide_left, wide_right, wide_sum, none_wide)
-
-pub length_turned : (l : Line) (j : ℕ) → length (turned l j).cells ≡ length l.cells
-length_turned l j = length-set (scale (neg_ℤ (sign (cell l.cells j))) l.cells) j (sign (cell l.cells j) *ℤ l.denom) ∙ length-scale (neg_ℤ (sign (cell l.cells j))) l.cells
 
 pub narrow_cells : (f : Factors) (l t : Line) (j : ℕ) → combination_wide f l t j ≡ false → steps_wide f (set l.cells j (pos 0)) t.cells ≡ false
 narrow_cells f l t j e = or_right (is_wide (f.own *ℤ l.denom) || step_wide f l.constant t.constant) (steps_wide f (set l.cells j (pos 0)) t.cells) e

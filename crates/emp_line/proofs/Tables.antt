@@ -8,13 +8,13 @@ use Rattle.std.proofs.lemmas.Int.{ints}
 use Rattle.emp_algebra.specs.Vector.{scale}
 use Rattle.emp_algebra.proofs.Vectors.{length-scale, cell-scale}
 use Rattle.emp_line.specs.Pivot.{is_zero, moved, no_line, sign, turned}
-use Rattle.emp_line.proofs.Exchange.{is_zero-true}
+use Rattle.emp_line.proofs.Exchange.{is_zero-true, length-turned}
 use Rattle.emp_line.proofs.Steps.{zero_no}
 use Rattle.emp_line.specs.Sparse.{no_cell, IsSparse}
 use Rattle.std.specs.Prelude.{nat_eq}
 use Rattle.emp_line.specs.Lines.{line_after}
 use Rattle.emp_line.specs.Place.{is_none}
-use Rattle.emp_line.proofs.Parts.{moved_still, length_turned}
+use Rattle.emp_line.proofs.Parts.{moved_still}
 use Rattle.emp_line.specs.Lines.{IsLine}
 use Rattle.std.proofs.lemmas.Bool.{cases_eq}
 use Rattle.std.proofs.lemmas.List.{get_or_default, drop_more, drop_all, append-nil, length-replicate, get_or-replicate}
@@ -254,5 +254,5 @@ table_after w r j flags old now new t out lent b c z x e g o h k n p s v =
     told i l m d (inr q) = x.flags i l m d ∙ ap (λ y. has_cell y i) (sym (other l q))
 
     widths : (i : ℕ) → i < length now → (i ≡ r) ⊎ (i ≢ r) → length (get_or new i no_line).cells ≡ w
-    widths i l (inl q) = ap (λ y. length (get_or new y no_line).cells) q ∙ (ap (λ (y : Line). length y.cells) here ∙ (length_turned (get_or old r no_line) j ∙ k))
+    widths i l (inl q) = ap (λ y. length (get_or new y no_line).cells) q ∙ (ap (λ (y : Line). length y.cells) here ∙ (length-turned (get_or old r no_line) j ∙ k))
     widths i l (inr q) = ap (λ (y : Line). length y.cells) (other i q) ∙ v i l

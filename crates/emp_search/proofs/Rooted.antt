@@ -1,11 +1,10 @@
 -- The search from the root.
-use Rattle.std.proofs.Common.{◌≡◌, ℕ, zero, suc, ◌+◌, ◌-◌, ◌<◌, ◌≤◌, [], length, get_or, replicate, arith, refl, sym, ap, subst, ◌∙◌}
+use Rattle.std.proofs.Common.{◌≡◌, ℕ, zero, suc, ◌-◌, ◌<◌, ◌≤◌, [], length, get_or, replicate, arith, refl, sym, subst, ◌∙◌}
 use Rattle.std.proofs.lemmas.List.{length-replicate}
 use Rattle.emp_rows.specs.declared.system.RowSystem.{RowSystem}
-use Rattle.emp_dict.specs.declared.label.Label.TheVariants.{Base, Objective}
 use Rattle.emp_dict.specs.declared.label.Mark.TheVariants.{Unasked, Required, Fixed}
-use Rattle.emp_dict.specs.Dictionary.{Dictionary, bases_from}
-use Rattle.emp_dict.proofs.Starts.{starts_tell}
+use Rattle.emp_dict.specs.Dictionary.{Dictionary}
+use Rattle.emp_dict.proofs.Starts.{length-bases, base_at, starts_tell}
 use Rattle.emp_step.specs.declared.outcome.Outcome.TheVariants.{Held, Empty, Best, Ray}
 use Rattle.emp_step.specs.Steps.{End, ended, too_wide, spent}
 use Rattle.emp_step.specs.Levels.{MayBeColumn, IsLevel}
@@ -17,19 +16,10 @@ use Rattle.emp_search.proofs.Working.{AllDone, AskedAs, Halfway, root_asks}
 use Rattle.emp_search.proofs.Showing.{ComesTo, searched_comes}
 
 -- ---- the start
-unasked_at : (n i : ℕ) → get_or (replicate n Unasked) i Unasked ≡ Unasked
+pub unasked_at : (n i : ℕ) → get_or (replicate n Unasked) i Unasked ≡ Unasked
 unasked_at zero i = refl
 unasked_at (suc n) zero = refl
 unasked_at (suc n) (suc i) = unasked_at n i
-
-length-bases : (at n : ℕ) → length (bases_from at n) ≡ n
-length-bases at zero = refl
-length-bases at (suc n) = ap suc (length-bases (at + 1) n)
-
-base_at : (at n j : ℕ) → j < n → get_or (bases_from at n) j Objective ≡ Base (at + j)
-base_at at zero j h = absurd (omega arith)
-base_at at (suc n) zero h = ap Base (omega arith)
-base_at at (suc n) (suc j) h = base_at (at + 1) n j (omega arith) ∙ ap Base (omega arith)
 
 pub start_level : (s : RowSystem) → IsLevel (started_of s)
 start_level s = record {

@@ -30,7 +30,8 @@ use Rattle.emp_dict.specs.Dictionary.{Dictionary, line_at, cell_at, row_label, c
 use Rattle.emp_dict.specs.Chosen.{chosen, index_in, mark_by_index, turn_mark, is_up}
 use Rattle.emp_dict.proofs.Starts.{label_quantity}
 use Rattle.emp_step.specs.Steps.{mark_of_label}
-use Rattle.emp_step.proofs.Labels.{RowIs, row_found, row_none, label_eq-true}
+use Rattle.emp_dict.proofs.Labels.{label_eq-true}
+use Rattle.emp_step.proofs.Labels.{RowIs, row_found, row_none}
 use Rattle.emp_step.proofs.Marks.{mark_quantity, fixed_index}
 use Rattle.emp_decide.specs.Reads.{value_by, value_of, IsPointOf, way, rate_by, rate_of, IsStepOf}
 use Rattle.emp_decide.specs.Laws.{IsDictionaryOf, IsLabelOf}

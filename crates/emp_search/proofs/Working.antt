@@ -28,7 +28,7 @@ use Rattle.emp_search.specs.Nodes.{IsNode, IsAsked, PathFixed, IsSettled}
 use Rattle.emp_search.proofs.Outcomes.{Refused, HoldsOr, LeastOr, EndSays, raise_says, fix_says, best_says}
 
 -- ---- marks after a step
-marks_length : (e : End) (k : ℕ) (m : Mark) (d : Dictionary) → length (mark_by e k m d).marks ≡ length d.marks
+pub marks_length : (e : End) (k : ℕ) (m : Mark) (d : Dictionary) → length (mark_by e k m d).marks ≡ length d.marks
 marks_length (ended Held) k m d = length-set d.marks (k - 1) m
 marks_length (ended (Empty r)) k m d = refl
 marks_length (ended (Best r)) k m d = refl

@@ -1,25 +1,9 @@
 -- Where a label stands.
 use Rattle.std.proofs.Common.{◌≡◌, ◌≢◌, ℕ, zero, suc, ◌+◌, ◌<◌, Bool, true, false, cond, List, [], ◌∷◌, length, get_or, Some, None, arith, refl, ap, ◌∙◌}
-use Rattle.std.proofs.lemmas.Bool.{eqb-true, eq-eqb}
 use Rattle.emp_dict.specs.declared.label.Label.{Label}
-use Rattle.emp_dict.specs.declared.label.Label.TheVariants.{Base, Quantity, Objective}
+use Rattle.emp_dict.specs.declared.label.Label.TheVariants.{Objective}
 use Rattle.emp_dict.specs.Dictionary.{Dictionary, row_label, label_eq, place_from, row_of}
-
-pub label_eq-true : (v w : Label) → label_eq v w ≡ true → v ≡ w
-label_eq-true (Base b) (Base c) e = ap Base (eqb-true b c e)
-label_eq-true (Base b) (Quantity k) e = absurd (cc)
-label_eq-true (Base b) Objective e = absurd (cc)
-label_eq-true (Quantity k) (Base b) e = absurd (cc)
-label_eq-true (Quantity k) (Quantity m) e = ap Quantity (eqb-true k m e)
-label_eq-true (Quantity k) Objective e = absurd (cc)
-label_eq-true Objective (Base b) e = absurd (cc)
-label_eq-true Objective (Quantity k) e = absurd (cc)
-label_eq-true Objective Objective e = refl
-
-pub label_eq_self : (w : Label) → label_eq w w ≡ true
-label_eq_self (Base b) = eq-eqb b b refl
-label_eq_self (Quantity k) = eq-eqb k k refl
-label_eq_self Objective = refl
+use Rattle.emp_dict.proofs.Labels.{label_eq-true, label_same}
 
 pub record Stands (vs : List Label) (w : Label) (at r : ℕ) : Type 0 where
   pub place : ℕ
@@ -41,7 +25,7 @@ place_none at w (v ∷ vs) e i h = go (label_eq v w) refl e i h (λ q. place_non
   where
     go : (b : Bool) → label_eq v w ≡ b → cond b (Some at) (place_from (at + 1) w vs) ≡ None → (i : ℕ) → i < length (v ∷ vs) → (place_from (at + 1) w vs ≡ None → (i : ℕ) → i < length vs → get_or vs i Objective ≢ w) → get_or (v ∷ vs) i Objective ≢ w
     go true q h i l rest = absurd (cc)
-    go false q h zero l rest = λ z. let t : label_eq v w ≡ true = ap (λ x. label_eq x w) z ∙ label_eq_self w in cc
+    go false q h zero l rest = λ z. let t : label_eq v w ≡ true = ap (λ x. label_eq x w) z ∙ label_same w in cc
     go false q h (suc i) l rest = rest h i (omega arith)
 
 pub record RowIs (d : Dictionary) (w : Label) (r : ℕ) : Type 0 where

@@ -1,6 +1,6 @@
 -- What is so after a step.
 use Rattle.std.proofs.Common.{◌≡◌, ◌≢◌, ℕ, ◌+◌, ◌-◌, ◌<◌, ◌≤◌, List, [], ◌∷◌, length, get_or, drop, Result, Ok, Err, IfOk, arith, refl, sym, ap, subst, ◌∙◌}
-use Rattle.std.proofs.lemmas.List.{length-set, get_or-set_other, drop_more, drop_all}
+use Rattle.std.proofs.lemmas.List.{get_or-set_other, drop_more, drop_all}
 use Rattle.emp_rows.specs.declared.system.Kind.{Kind}
 use Rattle.emp_rows.specs.declared.system.Kind.TheVariants.{Zero, Nonneg}
 use Rattle.emp_rows.specs.declared.system.RowSystem.{RowSystem}
@@ -19,15 +19,8 @@ use Rattle.emp_step.proofs.Whole.{raise_level, fix_level, best_level, steps_mark
 use Rattle.emp_turns.specs.Choice.{MayMove}
 use Rattle.emp_search.specs.Search.{ask_of, asks_from, and_then, asked}
 use Rattle.emp_search.proofs.Outcomes.{HoldsOr, LeastOr, EndSays, rays, raise_says, fix_says, best_says}
+use Rattle.emp_search.proofs.Working.{marks_length}
 use Rattle.emp_walk.specs.Fits.{IsAt, AskFits, OutcomeFits, DoneFits, AskedFits}
-
-marks_length : (e : End) (k : ℕ) (m : Mark) (d : Dictionary) → length (mark_by e k m d).marks ≡ length d.marks
-marks_length (ended Held) k m d = length-set d.marks (k - 1) m
-marks_length (ended (Empty r)) k m d = refl
-marks_length (ended (Best r)) k m d = refl
-marks_length (ended (Ray j up)) k m d = refl
-marks_length too_wide k m d = refl
-marks_length spent k m d = refl
 
 -- the quantities after number k have their marks
 later_mark : (e : End) (k : ℕ) (m : Mark) (d : Dictionary) → 0 < k → (q : ℕ) → k < q → mark_at (mark_by e k m d) q ≡ mark_at d q

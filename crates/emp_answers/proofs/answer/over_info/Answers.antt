@@ -1,4 +1,4 @@
-use Rattle.emp_command.specs.Requests.{asked_of, word_of}
+use Rattle.emp_command.specs.Requests.{asked_of}
 use Rattle.emp_answers.proofs.Answering.{info_answer, read_answer}
 use Rattle.emp_answers.proofs.answer.over_info.Goals as goal
 

@@ -1,4 +1,4 @@
-use Rattle.emp_command.specs.Requests.{asked_of, word_of}
+use Rattle.emp_command.specs.Requests.{asked_of}
 use Rattle.emp_answers.specs.Outcomes.{outcome_of}
 use Rattle.emp_answers.proofs.Answering.{not_built}
 use Rattle.emp_answers.proofs.answer.unbuilt.Goals as goal

@@ -1,7 +1,7 @@
 use Rattle.std.proofs.Common.{subst, Some}
 use Rattle.emp_answers.specs.Outcomes.{StoresFail}
 use Rattle.emp_cert_text.specs.Upgrading.{IsUpgrade}
-use Rattle.emp_answers.proofs.Certifying.{stored_said, stored_long, members_are_numbers}
+use Rattle.emp_answers.proofs.Certifying.{stored_said, stored_long}
 use Rattle.emp_answers.proofs.certificates.stored_anew.Goals as goal
 
 pub returns-in-Ok : goal.returns-in-Ok

@@ -1,4 +1,4 @@
-use Rattle.std.proofs.Common.{refl, sym}
+use Rattle.std.proofs.Common.{sym}
 use Rattle.emp_answers.proofs.Certifying.{rejected_tried, wide_tried}
 use Rattle.emp_answers.proofs.certificates.test.Goals as goal
 

@@ -1,4 +1,4 @@
-use Rattle.emp_command.specs.Requests.{asked_of, word_of}
+use Rattle.emp_command.specs.Requests.{asked_of}
 use Rattle.emp_answers.proofs.Solving.{refused_answer}
 use Rattle.emp_answers.proofs.solve.solve.Goals as goal
 

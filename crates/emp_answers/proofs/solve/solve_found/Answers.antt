@@ -1,4 +1,4 @@
-use Rattle.emp_command.specs.Requests.{asked_of, word_of}
+use Rattle.emp_command.specs.Requests.{asked_of}
 use Rattle.emp_answers.specs.Outcomes.{report_of}
 use Rattle.emp_answers.proofs.Solving.{delivered_answer, unfilled_answer}
 use Rattle.emp_answers.proofs.solve.solve_found.Goals as goal

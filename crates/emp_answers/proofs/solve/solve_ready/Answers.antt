@@ -1,4 +1,4 @@
-use Rattle.emp_command.specs.Requests.{asked_of, word_of}
+use Rattle.emp_command.specs.Requests.{asked_of}
 use Rattle.emp_answers.proofs.Solving.{unfinished_answer}
 use Rattle.emp_answers.proofs.solve.solve_ready.Goals as goal
 

@@ -9,7 +9,7 @@ use Rattle.emp_line.specs.Indexed.{IsIndex}
 use Rattle.emp_line.specs.Place.{is_none, moved_wide}
 use Rattle.emp_line.proofs.Sound.{turned_sound}
 use Rattle.emp_line.proofs.Joins.{own_width}
-use Rattle.emp_line.proofs.Parts.{length_turned}
+use Rattle.emp_line.proofs.Exchange.{length-turned}
 use Rattle.emp_line.proofs.Whole.{narrow_others, pivots_back}
 use Rattle.emp_line.proofs.Tables.{head_turned, table_after}
 use Rattle.emp_line.proofs.table.pivot_rows.Goals as goal
@@ -20,7 +20,7 @@ same : (c : After-set_turned) → c.set_turned.new.self ≡ turned (get_or c.arg
 same c = c.set_turned.ensures ∙ ap (λ l. turned l c.args.column) (c.get.ensures ∙ get_or_default c.args.lines.now c.args.row c.get.result.now no_line c.requires.row)
 
 width : (c : After-set_turned) → length c.set_turned.new.self.cells ≡ length (get_or c.args.lines.now c.args.row no_line).cells
-width c = ap (λ (l : Line). length l.cells) (same c) ∙ length_turned (get_or c.args.lines.now c.args.row no_line) c.args.column
+width c = ap (λ (l : Line). length l.cells) (same c) ∙ length-turned (get_or c.args.lines.now c.args.row no_line) c.args.column
 
 table_width : (c : After-set_turned) → length (get_or c.args.lines.now c.args.row no_line).cells ≡ length c.args.turned.now.cells
 table_width c = c.requires.table.lines c.args.row c.requires.row
