@@ -1,5 +1,5 @@
 //! The pivots that a search makes, counted step by step.
-use crate::systems::{apart, falling};
+use crate::systems::{falling, paired};
 use emp_dict::dict::Dict;
 use emp_face::budget::Budget;
 use emp_face::steps;
@@ -62,8 +62,8 @@ fn pivots_of(alloc: Global, system: &RowSystem) -> Result<(u64, u64, u64), Fail>
 // Both children go on from the dictionary that the root ended with: a search that makes the root's pivot again for the second one makes three.
 #[test]
 fn counts_pivots(rt: HostRuntime) -> Result<(), Fail> {
-    let apart = apart(rt.alloc())?;
-    assert_eq!(rt; pivots_of(rt.alloc(), &apart)?, (2, 5, 3));
+    let none = paired(rt.alloc(), 1)?;
+    assert_eq!(rt; pivots_of(rt.alloc(), &none)?, (2, 5, 3));
     let falling = falling(rt.alloc())?;
     assert_eq!(rt; pivots_of(rt.alloc(), &falling)?, (1, 2, 1));
     Ok(())

@@ -1,6 +1,7 @@
 //! Small row systems over the base variables x and y.
 ghost use Rattle.std.specs.Prelude.{◌≡◌, length, IfOk};
 ghost use Rattle.std.specs.List.{All};
+ghost use Rattle.emp_num.specs.Exact.{IsNarrow};
 ghost use Rattle.emp_rows.specs.Affine.{IsRow};
 
 use emp_list::seq::Seq;
@@ -9,8 +10,9 @@ use emp_rows::system::{Kind, RowSystem};
 use std::alloc::Global;
 use std::test::Fail;
 
-// x, y - 1, y and x + 1.
-fn apart_rows(alloc: Global) -> Result<Seq<Affine>, Fail>
+// x, y - 1, y and x with a constant.
+fn paired_rows(alloc: Global, constant: i128) -> Result<Seq<Affine>, Fail>
+    requires { IsNarrow constant }
     ensures rows { IfOk result (All (IsRow 2)) }
     ensures count { IfOk result (λ rows. length rows ≡ 4) }
 {
@@ -18,15 +20,18 @@ fn apart_rows(alloc: Global) -> Result<Seq<Affine>, Fail>
     rows.push(Affine::primitive(alloc, &[1, 0], 0)?)?;
     rows.push(Affine::primitive(alloc, &[0, 1], -1)?)?;
     rows.push(Affine::primitive(alloc, &[0, 1], 0)?)?;
-    rows.push(Affine::primitive(alloc, &[1, 0], 1)?)?;
+    rows.push(Affine::primitive(alloc, &[1, 0], constant)?)?;
     Ok(rows)
 }
 
-// x at least 0 with y - 1, and y at least 0 with x + 1: no point has a member of each pair 0.
-pub fn apart(alloc: Global) -> Result<RowSystem, Fail> {
+// x at least 0 with y - 1, and y at least 0 with x and a constant. Where that is above 0 no point has a member of each pair 0.
+pub fn paired(alloc: Global, constant: i128) -> Result<RowSystem, Fail>
+    requires { IsNarrow constant }
+    ensures { IfOk result (λ system. system.base ≡ 2) }
+{
     Ok(RowSystem {
         base: 2,
-        quantities: apart_rows(alloc)?,
+        quantities: paired_rows(alloc, constant)?,
         kinds: Seq::of_slice(alloc, &[Kind::Nonneg; 4])?,
         pairs: Seq::of_slice(alloc, &[(1, 2), (3, 4)])?,
         objective: None,
@@ -45,7 +50,9 @@ fn falling_rows(alloc: Global) -> Result<Seq<Affine>, Fail>
 }
 
 // x from 0 to 3, and -x that is to be least.
-pub fn falling(alloc: Global) -> Result<RowSystem, Fail> {
+pub fn falling(alloc: Global) -> Result<RowSystem, Fail>
+    ensures { IfOk result (λ system. system.base ≡ 2) }
+{
     Ok(RowSystem {
         base: 2,
         quantities: falling_rows(alloc)?,
