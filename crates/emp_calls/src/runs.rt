@@ -45,22 +45,15 @@ fn desk_of(alloc: Global, model: &[u8], info: &[u8]) -> Result<MemoryDesk, Fail>
     Ok(desk)
 }
 
-fn holds(desk: &MemoryDesk, name: &str, expected: &[u8]) -> bool {
-    match desk.file(name) {
-        Some(bytes) => bytes == expected,
-        None => false,
-    }
-}
-
 // Whether the desk keeps what it kept at the start, and nothing under the name t.
 fn is_kept(desk: &MemoryDesk, model: &[u8], info: &[u8]) -> bool {
-    holds(desk, "m", model)
-        && holds(desk, "i", info)
-        && holds(desk, "c", b"kept")
+    desk.file("m") == Some(model)
+        && desk.file("i") == Some(info)
+        && desk.file("c") == Some(b"kept".as_slice())
         && desk.file("t").is_none()
 }
 
-// The call over the two texts ends with the status, says just this, and changes no file.
+/// The call over the two texts ends with the status, says just this, and changes no file.
 pub fn ends(
     rt: &impl Abort,
     alloc: Global,
@@ -80,13 +73,13 @@ pub fn ends(
 }
 
 // A model of the declarations and definitions.
-pub fn model_of_parts(alloc: Global, parts: &str) -> Result<String, Fail> {
+fn model_of_parts(alloc: Global, parts: &str) -> Result<String, Fail> {
     let mut text = String::from_str(alloc, parts)?;
     text.push_str("\nModel m / all /;\nSolve m using EMP;\n")?;
     Ok(text)
 }
 
-// `solve` of a model of the declarations and definitions ends so.
+/// `solve` of a model of the declarations and definitions ends so.
 pub fn solve_ends(
     rt: &impl Abort,
     alloc: Global,
@@ -305,26 +298,18 @@ fn finds_points_within_bounds(rt: HostRuntime) -> Result<(), Fail> {
     Ok(())
 }
 
-// Over two markets without an equilibrium the words end so.
-fn apart_ends(
-    rt: &impl Abort,
-    alloc: Global,
-    line: &str,
-    status: u8,
-    said: &str,
-) -> Result<(), Fail> {
-    let texts = (APART.as_bytes(), PAIRS.as_bytes());
-    ends(rt, alloc, line, texts, status, said.as_bytes())
-}
-
 // Each node and each pivot takes one unit before it is made: three nodes and two pivots are five.
 #[test]
 fn takes_units(rt: HostRuntime) -> Result<(), Fail> {
+    let texts = (APART.as_bytes(), PAIRS.as_bytes());
     for (line, status, said) in [
+        ("solve m i --work 1", 20, "error 20: work 1 spent\n"),
+        ("solve m i --work 2", 20, "error 20: work 2 spent\n"),
+        ("solve m i --work 3", 20, "error 20: work 3 spent\n"),
         ("solve m i --work 4", 20, "error 20: work 4 spent\n"),
         ("solve m i --work 5", 1, "no equilibrium\nwork 5\nnodes 3\n"),
     ] {
-        apart_ends(&rt, rt.alloc(), line, status, said)?;
+        ends(&rt, rt.alloc(), line, texts, status, said.as_bytes())?;
     }
     Ok(())
 }
