@@ -24,7 +24,7 @@ fn paired_rows(alloc: Global, constant: i128) -> Result<Seq<Affine>, Fail>
     Ok(rows)
 }
 
-// x at least 0 with y - 1, and y at least 0 with x and a constant. Where that is above 0 no point has a member of each pair 0.
+/// x at least 0 with y - 1, and y at least 0 with x and a constant. Where that is above 0 no point has a member of each pair 0.
 pub fn paired(alloc: Global, constant: i128) -> Result<RowSystem, Fail>
     requires { IsNarrow constant }
     ensures { IfOk result (λ system. system.base ≡ 2) }
@@ -49,7 +49,7 @@ fn falling_rows(alloc: Global) -> Result<Seq<Affine>, Fail>
     Ok(rows)
 }
 
-// x from 0 to 3, and -x that is to be least.
+/// x from 0 to 3, and -x that is to be least.
 pub fn falling(alloc: Global) -> Result<RowSystem, Fail>
     ensures { IfOk result (λ system. system.base ≡ 2) }
 {

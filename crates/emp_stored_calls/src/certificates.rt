@@ -62,7 +62,7 @@ Model m / all /;
 Solve m using EMP minimizing z;
 ";
 
-// A desk that keeps a model and an annotation under the names m and i, and a certificate under the name c.
+/// A desk that keeps a model and an annotation under the names m and i, and a certificate under the name c.
 pub fn desk_with(alloc: Global, model: &str, info: &str, cert: &str) -> Result<MemoryDesk, Fail> {
     let mut desk = MemoryDesk::new(alloc);
     desk.put("m", model.as_bytes())?;

@@ -2,7 +2,7 @@
 use std::alloc::Global;
 use std::test::Fail;
 
-// The words of a line, which stand apart by one space.
+/// The words of a line, which stand apart by one space.
 pub fn words_of(alloc: Global, line: &str) -> Result<Vec<String>, Fail> {
     let mut words = Vec::new(alloc);
     for word in line.split(' ') {
