@@ -19,5 +19,4 @@ pub mod Filling
 pub mod Rows
 pub mod Marks
 pub mod Tables
-pub mod Untouched
 pub mod Examples

@@ -7,9 +7,9 @@ use Rattle.emp_algebra.specs.Vector.{cell}
 use Rattle.emp_line.specs.declared.cells.Cell.{Cell}
 use Rattle.emp_line.specs.Pivot.{is_zero}
 use Rattle.emp_line.specs.Sparse.{no_cell, spread, IsSparse}
-use Rattle.emp_line.specs.Indexed.{flag}
-use Rattle.emp_line.specs.Place.{IsPlace, MarksCells, Rises, stands}
-use Rattle.emp_line.proofs.Spread.{before_more, behind_more, number_at, past, spread_more, sparse_past, step_end}
+use Rattle.emp_line.specs.Indexed.{KeepsOthers, flag}
+use Rattle.emp_line.specs.Place.{stands, MarksCells}
+use Rattle.emp_line.proofs.Spread.{number_at, past, spread_more, sparse_past, step_end}
 
 -- ---- lists built one value at a time
 pub flags_more : (out : List Bool) (n : ℕ) → out ≡ replicate n false → out ++ false ∷ [] ≡ replicate (n + 1) false
@@ -28,21 +28,28 @@ copy_all out ls i e h = sym (append-nil out) ∙ (ap (λ r. out ++ r) (sym (drop
 
 pub ruleset copying = (copy_more, copy_all)
 
+-- ---- one line's flags
+pub keeps_all : (at : ℕ) (old : List (List Bool)) → KeepsOthers at old old
+keeps_all at old = record { columns = refl; sizes = λ k h. refl; others = λ k i n. refl }
+
+pub keeps_after : (at : ℕ) (old now new : List (List Bool)) → KeepsOthers at old now → KeepsOthers at now new → KeepsOthers at old new
+keeps_after at old now new m n = record {
+  columns = n.columns ∙ m.columns;
+  sizes = λ k h. n.sizes k (let c = m.columns in omega arith) ∙ m.sizes k h;
+  others = λ k i q. n.others k i q ∙ m.others k i q;
+}
+
 -- ---- one flag
 record Flagged (k i : ℕ) (value : Bool) (old new : List (List Bool)) : Type 0 where
-  pub columns : length new ≡ length old
-  pub sizes : (h : ℕ) → length (get_or new h []) ≡ length (get_or old h [])
+  pub rest : KeepsOthers i old new
   pub same : flag new k i ≡ value
   pub line : (h : ℕ) → h ≢ k → flag new h i ≡ flag old h i
-  pub others : (h m : ℕ) → m ≢ i → flag new h m ≡ flag old h m
 
 flagged : (k i : ℕ) (value : Bool) (old : List (List Bool)) → k < length old → i < length (get_or old k []) → Flagged k i value old (set old k (set (get_or old k []) i value))
 flagged k i value old h l = record {
-  columns = length-set old k (set (get_or old k []) i value);
-  sizes = λ m. sizes m (cases_eq m k);
+  rest = record { columns = length-set old k (set (get_or old k []) i value); sizes = λ m b. sizes m (cases_eq m k); others = λ m j n. others m j n (cases_eq m k) };
   same = ap (λ r. get_or r i false) (get_or-set_same old k (set (get_or old k []) i value) [] h) ∙ get_or-set_same (get_or old k []) i value false l;
   line = λ m n. ap (λ r. get_or r i false) (get_or-set_other old k m (set (get_or old k []) i value) [] n);
-  others = λ m j n. others m j n (cases_eq m k);
 }
   where
     sizes : (m : ℕ) → (m ≡ k) ⊎ (m ≢ k) → length (get_or (set old k (set (get_or old k []) i value)) m []) ≡ length (get_or old m [])
@@ -66,23 +73,19 @@ stands_last k (d ∷ cs) c = ap (λ b. nat_eq d.column k || b) (stands_last k cs
     or_assoc true b c = refl
     or_assoc false b c = refl
 
-pub marks_start : (cs own : List Cell) (at : ℕ) (old : List (List Bool)) → MarksCells (take 0 cs) own at old old
-marks_start cs own at old = record { columns = refl; sizes = λ k h. refl; others = λ k i n. refl; here = λ k h. refl }
+pub marks_start : (cs : List Cell) (at : ℕ) (value : Bool) (old : List (List Bool)) → MarksCells (take 0 cs) at value old old
+marks_start cs at value old = record { rest = keeps_all at old; here = λ k h. refl }
 
-pub marks_next : (cs own : List Cell) (at n j : ℕ) (value : Bool) (old now new : List (List Bool)) → MarksCells (take n cs) own at old now → n < length cs → j ≡ (get_or cs n no_cell).column → j < length old → at < length (get_or old j []) → value ≡ stands j own → new ≡ set now j (set (get_or now j []) at value) → MarksCells (take (n + 1) cs) own at old new
-marks_next cs own at n j value old now new m h q b p v e =
-    let columns = m.columns in
-    let size = m.sizes j b in
-    let f : Flagged j at value now new = subst (Flagged j at value now) (sym e) (flagged j at value now (omega arith) (omega arith)) in
-    record {
-      columns = f.columns ∙ m.columns;
-      sizes = λ k l. f.sizes k ∙ m.sizes k l;
-      others = λ k i q. f.others k i q ∙ m.others k i q;
-      here = λ k l. here k l f (cases_eq k j);
-    }
+pub marks_next : (cs : List Cell) (at n : ℕ) (value : Bool) (old now new : List (List Bool)) → MarksCells (take n cs) at value old now → n < length cs → (get_or cs n no_cell).column < length old → at < length (get_or old (get_or cs n no_cell).column []) → new ≡ set now (get_or cs n no_cell).column (set (get_or now (get_or cs n no_cell).column []) at value) → MarksCells (take (n + 1) cs) at value old new
+marks_next cs at n value old now new m h b p e =
+    let j = (get_or cs n no_cell).column in
+    let columns = m.rest.columns in
+    let size = m.rest.sizes (get_or cs n no_cell).column b in
+    let f : Flagged (get_or cs n no_cell).column at value now new = subst (Flagged j at value now) (sym e) (flagged j at value now (omega arith) (omega arith)) in
+    record { rest = keeps_after at old now new m.rest f.rest; here = λ k l. here k l f (cases_eq k j) }
   where
-    told : (k : ℕ) → stands k (take (n + 1) cs) ≡ stands k (take n cs) || nat_eq j k
-    told k = ap (stands k) (take_more cs n no_cell h) ∙ (stands_last k (take n cs) (get_or cs n no_cell) ∙ ap (λ x. stands k (take n cs) || nat_eq x k) (sym q))
+    told : (k : ℕ) → stands k (take (n + 1) cs) ≡ stands k (take n cs) || nat_eq (get_or cs n no_cell).column k
+    told k = ap (stands k) (take_more cs n no_cell h) ∙ stands_last k (take n cs) (get_or cs n no_cell)
 
     or_true : (b : Bool) → (b || true) ≡ true
     or_true true = refl
@@ -92,67 +95,25 @@ marks_next cs own at n j value old now new m h q b p v e =
     or_false true = refl
     or_false false = refl
 
-    here : (k : ℕ) → k < length old → Flagged j at value now new → (k ≡ j) ⊎ (k ≢ j) → flag new k at ≡ cond (stands k (take (n + 1) cs)) (stands k own) (flag old k at)
-    here k l f (inl x) =
-        ap (λ i. flag new i at) x ∙ (f.same ∙ (v ∙ (ap (λ i. stands i own) (sym x) ∙ sym (ap (λ b. cond b (stands k own) (flag old k at)) (told k ∙ (ap (λ b. stands k (take n cs) || b) (eq-eqb j k (sym x)) ∙ or_true (stands k (take n cs))))))))
-    here k l f (inr x) =
-        f.line k x ∙ (m.here k l ∙ sym (ap (λ b. cond b (stands k own) (flag old k at)) (told k ∙ (ap (λ b. stands k (take n cs) || b) (ne_eqb j k (λ r. x (sym r))) ∙ or_false (stands k (take n cs))))))
+    here : (k : ℕ) → k < length old → Flagged (get_or cs n no_cell).column at value now new → (k ≡ (get_or cs n no_cell).column) ⊎ (k ≢ (get_or cs n no_cell).column) → flag new k at ≡ cond (stands k (take (n + 1) cs)) value (flag old k at)
+    here k l f (inl q) =
+        ap (λ x. flag new x at) q ∙ (f.same ∙ sym (ap (λ b. cond b value (flag old k at)) (told k ∙ (ap (λ b. stands k (take n cs) || b) (eq-eqb (get_or cs n no_cell).column k (sym q)) ∙ or_true (stands k (take n cs))))))
+    here k l f (inr q) =
+        f.line k q ∙ (m.here k l ∙ sym (ap (λ b. cond b value (flag old k at)) (told k ∙ (ap (λ b. stands k (take n cs) || b) (ne_eqb (get_or cs n no_cell).column k (λ r. q (sym r))) ∙ or_false (stands k (take n cs))))))
 
--- both lists of cells, side by side
-pub record Marking (cs own : List Cell) (line at own_at : ℕ) (old now : List (List Bool)) : Type 0 where
-  pub marks : MarksCells (take at cs) own line old now
-  pub within : own_at ≤ length own
-  pub before : (i k : ℕ) → i < own_at → at ≤ k → k < length cs → (get_or own i no_cell).column < (get_or cs k no_cell).column
+pub marks_all : (cs : List Cell) (at n : ℕ) (value : Bool) (old now : List (List Bool)) → MarksCells (take n cs) at value old now → length cs ≤ n → MarksCells cs at value old now
+marks_all cs at n value old now m h = subst (λ ls. MarksCells ls at value old now) (take_all n cs h) m
 
-pub marking_start : (cs own : List Cell) (line : ℕ) (old : List (List Bool)) → Marking cs own line 0 0 old old
-marking_start cs own line old = record { marks = marks_start cs own line old; within = omega arith; before = λ i k h. absurd (omega arith) }
+pub marks_column : (cs : List Cell) (at n : ℕ) (value : Bool) (old now : List (List Bool)) → MarksCells (take n cs) at value old now → n < length cs → ((i : ℕ) → i < length cs → (get_or cs i no_cell).column < length old) → (get_or cs n no_cell).column < length now
+marks_column cs at n value old now m h b = let c = m.rest.columns in let d = b n h in omega arith
 
-pub marking_next : (cs own : List Cell) (line at p q j : ℕ) (value : Bool) (old now new : List (List Bool)) → Marking cs own line at p old now → Rises cs → at < length cs → j ≡ (get_or cs at no_cell).column → j < length old → line < length (get_or old j []) → IsPlace own j q → q ≤ length own → value ≡ stands j own → new ≡ set now j (set (get_or now j []) line value) → Marking cs own line (at + 1) q old new
-marking_next cs own line at p q j value old now new m r h e b l s w v f = record {
-  marks = marks_next cs own line at j value old now new m.marks h e b l v f;
-  within = w;
-  before = λ i k c d a. let x = s.before i c in let y = r at k (omega arith) a in omega (arith, e);
-}
+pub marks_place : (cs : List Cell) (at n : ℕ) (value : Bool) (old now : List (List Bool)) → MarksCells (take n cs) at value old now → n < length cs → ((i : ℕ) → i < length cs → (get_or cs i no_cell).column < length old) → ((k : ℕ) → k < length old → at < length (get_or old k [])) → at < length (get_or now (get_or cs n no_cell).column [])
+marks_place cs at n value old now m h b p = let d = b n h in let s = m.rest.sizes (get_or cs n no_cell).column d in let q = p (get_or cs n no_cell).column d in omega arith
 
-pub marking_all : (cs own : List Cell) (line at p : ℕ) (old now : List (List Bool)) → Marking cs own line at p old now → length cs ≤ at → MarksCells cs own line old now
-marking_all cs own line at p old now m h = subst (λ ls. MarksCells ls own line old now) (take_all at cs h) m.marks
+pub marks_step : (cs : List Cell) (at n : ℕ) (value : Bool) (old now new : List (List Bool)) → MarksCells (take n cs) at value old now → n < length cs → ((i : ℕ) → i < length cs → (get_or cs i no_cell).column < length old) → ((k : ℕ) → k < length old → at < length (get_or old k [])) → new ≡ set now (get_or cs n no_cell).column (set (get_or now (get_or cs n no_cell).column []) at value) → MarksCells (take (n + 1) cs) at value old new
+marks_step cs at n value old now new m h b p e = marks_next cs at n value old now new m h (b n h) (p (get_or cs n no_cell).column (b n h)) e
 
-pub ruleset marking = (marking_start, marking_all)
-
--- ---- the place of a column
-pub ruleset passing = (before_more, behind_more)
-
-stands_some : (k : ℕ) (cs : List Cell) (i : ℕ) → i < length cs → (get_or cs i no_cell).column ≡ k → stands k cs ≡ true
-stands_some k [] i h e = absurd (omega arith)
-stands_some k (c ∷ cs) zero h e = ap (λ b. b || stands k cs) (eq-eqb c.column k e)
-stands_some k (c ∷ cs) (suc i) h e = ap (λ b. nat_eq c.column k || b) (stands_some k cs i (omega arith) e) ∙ go (nat_eq c.column k)
-  where
-    go : (b : Bool) → (b || true) ≡ true
-    go true = refl
-    go false = refl
-
-stands_none : (k : ℕ) (cs : List Cell) → ((i : ℕ) → i < length cs → (get_or cs i no_cell).column ≢ k) → stands k cs ≡ false
-stands_none k [] h = refl
-stands_none k (c ∷ cs) h = ap (λ b. b || stands k cs) (ne_eqb c.column k (h 0 (omega arith))) ∙ stands_none k cs (λ i b. h (suc i) (omega arith))
-
-pub stands_here : (k p : ℕ) (cs : List Cell) → p < length cs → (get_or cs p no_cell).column ≡ k → true ≡ stands k cs
-stands_here k p cs h e = sym (stands_some k cs p h e)
-
-pub stands_nowhere : (k p : ℕ) (cs : List Cell) → Rises cs → IsPlace cs k p → (p < length cs → (get_or cs p no_cell).column ≢ k) → false ≡ stands k cs
-stands_nowhere k p cs r s n = sym (stands_none k cs (λ i h. at i h (cases_lt i p)))
-  where
-    cases_lt : (i p : ℕ) → (i < p) ⊎ (p ≤ i)
-    cases_lt i p = grind arith
-
-    behind : (i : ℕ) → i < length cs → p ≤ i → (p ≡ i) ⊎ (p ≢ i) → (get_or cs i no_cell).column ≢ k
-    behind i h l (inl e) q = n (omega arith) (ap (λ m. (get_or cs m no_cell).column) e ∙ q)
-    behind i h l (inr e) q = let a = s.behind p (omega arith) (omega arith) in let b = r p i (omega arith) h in omega arith
-
-    at : (i : ℕ) → i < length cs → (i < p) ⊎ (p ≤ i) → (get_or cs i no_cell).column ≢ k
-    at i h (inl l) q = let a = s.before i l in omega arith
-    at i h (inr l) q = behind i h l (cases_eq p i) q
-
-pub ruleset standing = (stands_here, stands_nowhere)
+pub ruleset marking = (marks_start, marks_step, marks_all, marks_column, marks_place)
 
 -- ---- which columns have a cell
 stands_below : (k at end : ℕ) (cs : List Cell) → IsSparse at end cs → k < at → stands k cs ≡ false

@@ -13,7 +13,7 @@ use Rattle.emp_line.specs.Pivot.{sign, is_zero, line_content, reduced, turned, f
 use Rattle.emp_line.proofs.Exchange.{defect, sign_square, is_zero-true, turned_is, combined_is, factors_meet, reduced_is}
 
 -- a product is 0 where a factor is, and where it is 0 beside a factor above 0, the other one is
-pub zero_factor : (x g : ℤ) → x *ℤ g ≡ pos 0 → pos 0 <ℤ g → x ≡ pos 0
+zero_factor : (x g : ℤ) → x *ℤ g ≡ pos 0 → pos 0 <ℤ g → x ≡ pos 0
 zero_factor x g e p = cancel_right x (pos 0) g (e ∙ sym (zero-*ℤ g)) p
 
 -- ---- the line of the pivot

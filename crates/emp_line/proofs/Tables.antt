@@ -1,30 +1,26 @@
 -- Lines with an index by columns.
 use Rattle.std.proofs.Common.{◌≡◌, ◌≢◌, ◌⊎◌, inl, inr, ℕ, zero, suc, ◌+◌, ◌<◌, ◌≤◌, ℤ, pos, negsuc, neg_ℤ, ◌*ℤ◌, ◌<ℤ◌, Bool, true, false, cond, List, [], ◌∷◌, ◌++◌, length, get_or, set, drop, replicate, Option, Some, None, arith, refl, ap, sym, subst, ◌∙◌, append_assoc, to_z-of_z, below_more, length-set, get_or-set_same, get_or-set_other}
-use Rattle.emp_algebra.specs.Vector.{cell}
+use Rattle.emp_algebra.specs.Vector.{cell, scale}
 use Rattle.emp_line.specs.declared.cells.Cell.{Cell}
 use Rattle.emp_line.specs.declared.line.Line.{Line}
 use lib.IntN.{*ℤ-zero}
 use Rattle.std.proofs.lemmas.Int.{ints}
-use Rattle.emp_algebra.specs.Vector.{scale}
 use Rattle.emp_algebra.proofs.Vectors.{length-scale, cell-scale}
 use Rattle.emp_line.specs.Pivot.{is_zero, moved, no_line, sign, turned}
 use Rattle.emp_line.proofs.Exchange.{is_zero-true, length-turned}
 use Rattle.emp_line.proofs.Steps.{zero_no}
 use Rattle.emp_line.specs.Sparse.{no_cell, IsSparse}
 use Rattle.std.specs.Prelude.{nat_eq}
-use Rattle.emp_line.specs.Lines.{line_after}
-use Rattle.emp_line.specs.Place.{is_none}
+use Rattle.emp_line.specs.Lines.{IsLine, line_after}
 use Rattle.emp_line.proofs.Parts.{moved_still}
-use Rattle.emp_line.specs.Lines.{IsLine}
 use Rattle.std.proofs.lemmas.Bool.{cases_eq}
 use Rattle.std.proofs.lemmas.List.{get_or_default, drop_more, drop_all, append-nil, length-replicate, get_or-replicate}
 use Rattle.emp_line.proofs.Kept.{moved_sound}
 use Rattle.emp_line.proofs.Whole.{Done, done_start, done_own, done_moved, none_own, none_other, none_here, none_next, none_all}
 use Rattle.emp_line.specs.Indexed.{has_cell, flag, IsIndex, IsTable, IsMarked, HasPlace, HasFlags, IsFlagged}
-use Rattle.emp_line.specs.Place.{stands, MarksCells}
+use Rattle.emp_line.specs.Place.{is_none, stands, MarksCells}
 use Rattle.emp_line.proofs.Rows.{whole, row_width, sign_apart, against_apart}
-use Rattle.emp_line.proofs.Marks.{stands_is}
-use Rattle.emp_line.proofs.Untouched.{has_false, untouched}
+use Rattle.emp_line.proofs.Marks.{keeps_after, stands_is}
 
 -- ---- the flags of one row
 columns_below : (at end : ℕ) (cs : List Cell) → IsSparse at end cs → (i : ℕ) → i < length cs → (get_or cs i no_cell).column < end
@@ -32,8 +28,8 @@ columns_below at end [] s i h = absurd (omega arith)
 columns_below at end (c ∷ cs) s zero h = s.1
 columns_below at end (c ∷ cs) s (suc i) h = columns_below (c.column + 1) end cs s.3 i (omega arith)
 
-pub row_columns : (l : Line) (d c : ℤ) (w n at : ℕ) (cs : List Cell) (index : List (List Bool)) → whole d c w cs ≡ l → IsSparse 0 w cs → length l.cells ≡ n → HasPlace n at index → (i : ℕ) → i < length cs → (get_or cs i no_cell).column < length index
-row_columns l d c w n at cs index e s q p i h =
+pub row_columns : (l : Line) (d c : ℤ) (w at : ℕ) (cs : List Cell) (index : List (List Bool)) → whole d c w cs ≡ l → IsSparse 0 w cs → HasPlace (length l.cells) at index → (i : ℕ) → i < length cs → (get_or cs i no_cell).column < length index
+row_columns l d c w at cs index e s p i h =
     let a : length l.cells ≡ w = sym (ap (λ (x : Line). length x.cells) e) ∙ row_width w cs in
     let b = p.columns in
     let k = columns_below 0 w cs s i h in
@@ -42,33 +38,47 @@ row_columns l d c w n at cs index e s q p i h =
 pub row_places : (l : Line) (at : ℕ) (index : List (List Bool)) → HasPlace (length l.cells) at index → (k : ℕ) → k < length index → at < length (get_or index k [])
 row_places l at index p k h = p.sizes k (let c = p.columns in omega arith)
 
-row_stands : (l : Line) (d c : ℤ) (w : ℕ) (cs : List Cell) → whole d c w cs ≡ l → IsSparse 0 w cs → (k : ℕ) → k < length l.cells → stands k cs ≡ has_cell l k
-row_stands l d c w cs e s k h =
-    let a : length l.cells ≡ w = sym (ap (λ (x : Line). length x.cells) e) ∙ row_width w cs in
-    sym (stands_is w k cs s (omega arith)) ∙ ap (λ (x : Line). has_cell x k) e
-
-pub row_marked : (l t : Line) (d c a b : ℤ) (w v at : ℕ) (cs ds : List Cell) (old new : List (List Bool)) → whole d c w cs ≡ l → IsSparse 0 w cs → whole a b v ds ≡ t → IsSparse 0 v ds → length t.cells ≡ length l.cells → HasPlace (length l.cells) at old → MarksCells ds cs at old new → IsMarked l t at old new
-row_marked l t d c a b w v at cs ds old new e s f r q p m = record {
-  columns = m.columns;
-  sizes = m.sizes;
-  others = m.others;
-  here = λ k h. m.here k h ∙ (ap (λ x. cond x (stands k cs) (flag old k at)) (row_stands t a b v ds f r k (let z = p.columns in omega arith)) ∙ ap (λ x. cond (has_cell t k) x (flag old k at)) (row_stands l d c w cs e s k (let z = p.columns in omega arith)));
-}
-
--- the flags told anew where the turned line has a cell
-pub flagged_anew : (w at : ℕ) (t : Line) (j : ℕ) (l x : Line) (old new : List (List Bool)) → IsLine w l → IsLine w t → cell t.cells j ≢ pos 0 → moved t j l ≡ Some x → HasPlace w at old → HasFlags l at old → IsMarked x t at old new → IsFlagged x at old new
-flagged_anew w at t j l x old new s r n e p f m = record {
-  columns = m.columns;
-  sizes = m.sizes;
-  others = m.others;
-  here = λ k h. told k (let c = m.columns in omega arith) (has_cell t k) refl;
+pub row_marked : (l : Line) (d c : ℤ) (w at : ℕ) (cs : List Cell) (value : Bool) (old new : List (List Bool)) → whole d c w cs ≡ l → IsSparse 0 w cs → HasPlace (length l.cells) at old → MarksCells cs at value old new → IsMarked l at value old new
+row_marked l d c w at cs value old new e s p m = record {
+  rest = m.rest;
+  here = λ k h. m.here k h ∙ ap (λ b. cond b value (flag old k at)) (told k (let a : length l.cells ≡ w = sym (ap (λ (x : Line). length x.cells) e) ∙ row_width w cs in let b = p.columns in omega arith));
 }
   where
-    told : (k : ℕ) → k < length old → (b : Bool) → has_cell t k ≡ b → flag new k at ≡ has_cell x k
-    told k h true q = m.here k h ∙ ap (λ b. cond b (has_cell x k) (flag old k at)) q
-    told k h false q = m.here k h ∙ (ap (λ b. cond b (has_cell x k) (flag old k at)) q ∙ (f k h ∙ sym (untouched w t j l x s r n e k (let c = p.columns in omega arith) q)))
+    told : (k : ℕ) → k < w → stands k cs ≡ has_cell l k
+    told k h = sym (stands_is w k cs s h) ∙ ap (λ (x : Line). has_cell x k) e
+
+-- the flags taken away and set anew
+pub place_kept : (w at : ℕ) (l : Line) (value : Bool) (old new : List (List Bool)) → HasPlace w at old → IsMarked l at value old new → HasPlace w at new
+place_kept w at l value old new p m = record { columns = m.rest.columns ∙ p.columns; sizes = λ k h. (let c = p.columns in let s = m.rest.sizes k (omega arith) in let q = p.sizes k h in omega arith) }
+
+pub flagged_anew : (w at : ℕ) (l x : Line) (old none new : List (List Bool)) → HasPlace w at old → HasFlags l at old → IsMarked l at false old none → IsMarked x at true none new → IsFlagged x at old new
+flagged_anew w at l x old none new p f m n = record {
+  rest = keeps_after at old none new m.rest n.rest;
+  here = λ k h. (let c = n.rest.columns in let b = m.rest.columns in n.here k (omega arith) ∙ (ap (λ y. cond (has_cell x k) true y) (cleared k (omega arith)) ∙ same (is_zero (cell x.cells k))));
+}
+  where
+    nothing : (b : Bool) → cond b false b ≡ false
+    nothing true = refl
+    nothing false = refl
+
+    cleared : (k : ℕ) → k < length old → flag none k at ≡ false
+    cleared k h = m.here k h ∙ (ap (λ y. cond (has_cell l k) false y) (f k h) ∙ nothing (has_cell l k))
+
+    same : (b : Bool) → cond (cond b false true) true false ≡ cond b false true
+    same true = refl
+    same false = refl
+
+pub ruleset flagging = (place_kept, flagged_anew)
 
 -- ---- the tests of a pivot
+has_false : (l : Line) (k : ℕ) → has_cell l k ≡ false → cell l.cells k ≡ pos 0
+has_false l k e = go (cell l.cells k) e
+  where
+    go : (z : ℤ) → cond (is_zero z) false true ≡ false → z ≡ pos 0
+    go (pos zero) e = refl
+    go (pos (suc n)) e = cc
+    go (negsuc n) e = cc
+
 pub has_true : (l : Line) (k : ℕ) → has_cell l k ≡ true → cell l.cells k ≢ pos 0
 has_true l k e z = let q = ap (λ y. cond (is_zero y) false true) z in cc
 
@@ -125,8 +135,8 @@ moving_next t r j at old now new flags marks place lent x y p m h n e f g k s =
     record {
       done = done_moved t r j at old now new x y m.done n h e f g;
       index = record {
-        columns = k.columns ∙ m.index.columns;
-        sizes = λ i b. k.sizes i (let d = m.index.columns in omega arith) ∙ (m.index.sizes i b ∙ sym size);
+        columns = k.rest.columns ∙ m.index.columns;
+        sizes = λ i b. k.rest.sizes i (let d = m.index.columns in omega arith) ∙ (m.index.sizes i b ∙ sym size);
         flags = λ i l b d. told i l b (omega (arith, size)) here (cases_eq l at);
       };
       lines = λ i b. sound i b here (cases_eq i at);
@@ -137,8 +147,8 @@ moving_next t r j at old now new flags marks place lent x y p m h n e f g k s =
     other i q = ap (λ ls. get_or ls i no_line) g ∙ get_or-set_other now at i y no_line q
 
     told : (i l : ℕ) → i < length t.cells → l < length now → get_or new at no_line ≡ y → (l ≡ at) ⊎ (l ≢ at) → flag marks i l ≡ has_cell (get_or new l no_line) i
-    told i l b d z (inl q) = ap (flag marks i) q ∙ (k.here i (let a = k.columns in let v = m.index.columns in omega arith) ∙ ap (λ w. has_cell w i) (sym z ∙ ap (λ v. get_or new v no_line) (sym q)))
-    told i l b d z (inr q) = k.others i l q ∙ (m.index.flags i l b d ∙ ap (λ w. has_cell w i) (sym (other l q)))
+    told i l b d z (inl q) = ap (flag marks i) q ∙ (k.here i (let a = k.rest.columns in let v = m.index.columns in omega arith) ∙ ap (λ w. has_cell w i) (sym z ∙ ap (λ v. get_or new v no_line) (sym q)))
+    told i l b d z (inr q) = k.rest.others i l q ∙ (m.index.flags i l b d ∙ ap (λ w. has_cell w i) (sym (other l q)))
 
     sound : (i : ℕ) → i < length old → get_or new at no_line ≡ y → (i ≡ at) ⊎ (i ≢ at) → IsLine (length t.cells) (get_or new i no_line)
     sound i b z (inl q) =
@@ -219,9 +229,6 @@ has_turned l j k h n p = go (cases_eq k j)
         ap (λ b. cond b false true)
         (ap is_zero (get_or-set_other (scale (neg_ℤ (sign (cell l.cells j))) l.cells) j k (sign (cell l.cells j) *ℤ l.denom) (pos 0) q ∙ cell-scale (neg_ℤ (sign (cell l.cells j))) l.cells k)
         ∙ zero_same (cell l.cells j) (cell l.cells k) n)
-
-pub head_turned : (l : Line) (j : ℕ) → j < length l.cells → cell l.cells j ≢ pos 0 → pos 0 <ℤ l.denom → cell (turned l j).cells j ≢ pos 0
-head_turned l j h n p = has_true (turned l j) j (has_turned l j j h n p ∙ ap (λ b. cond b false true) (zero_no (cell l.cells j) n))
 
 -- the pivot's own line put in
 pub table_after : (w r j : ℕ) (flags : List (List Bool)) (old now new : List Line) (t out lent : Line) → r < length old → length now ≡ length old → get_or now r no_line ≡ get_or old r no_line → IsIndex w flags now → t ≡ turned (get_or old r no_line) j → new ≡ set now r t → out ≡ get_or now r out → j < w → length (get_or old r no_line).cells ≡ w → cell (get_or old r no_line).cells j ≢ pos 0 → pos 0 <ℤ (get_or old r no_line).denom → length lent.cells ≡ w → ((i : ℕ) → i < length now → length (get_or now i no_line).cells ≡ w) → IsTable flags out lent new

@@ -18,13 +18,6 @@ pub record IsIndex (w : ℕ) (index : List (List Bool)) (lines : List Line) : Ty
   pub sizes : (k : ℕ) → k < w → length (slice_index_or index k []) ≡ length lines
   pub flags : (k i : ℕ) → k < w → i < length lines → flag index k i ≡ has_cell (slice_index_or lines i no_line) k
 
--- line `at` has its flags, in the columns of the other line's cells, changed to whether l has a cell there, and no other flag is changed
-pub record IsMarked (l other : Line) (at : ℕ) (old new : List (List Bool)) : Type 0 where
-  pub columns : length new ≡ length old
-  pub sizes : (k : ℕ) → k < length old → length (slice_index_or new k []) ≡ length (slice_index_or old k [])
-  pub others : (k i : ℕ) → i ≢ at → flag new k i ≡ flag old k i
-  pub here : (k : ℕ) → k < length old → flag new k at ≡ cond (has_cell other k) (has_cell l k) (flag old k at)
-
 -- so many columns have a place for line `at`
 pub record HasPlace (w at : ℕ) (index : List (List Bool)) : Type 0 where
   pub columns : length index ≡ w
@@ -34,11 +27,20 @@ pub record HasPlace (w at : ℕ) (index : List (List Bool)) : Type 0 where
 abbrev pub HasFlags : Line → ℕ → List (List Bool) → Type 0
 HasFlags l at index = (k : ℕ) → k < length index → flag index k at ≡ has_cell l k
 
--- the flags of line `at` are changed to tell where l has a cell, and no other flag is changed
-pub record IsFlagged (l : Line) (at : ℕ) (old new : List (List Bool)) : Type 0 where
+-- the index has the places that it had, and no flag is changed but those of line `at`
+pub record KeepsOthers (at : ℕ) (old new : List (List Bool)) : Type 0 where
   pub columns : length new ≡ length old
   pub sizes : (k : ℕ) → k < length old → length (slice_index_or new k []) ≡ length (slice_index_or old k [])
   pub others : (k i : ℕ) → i ≢ at → flag new k i ≡ flag old k i
+
+-- the flags of line `at` are changed to `value` in the columns of l's cells, and no others
+pub record IsMarked (l : Line) (at : ℕ) (value : Bool) (old new : List (List Bool)) : Type 0 where
+  pub rest : KeepsOthers at old new
+  pub here : (k : ℕ) → k < length old → flag new k at ≡ cond (has_cell l k) value (flag old k at)
+
+-- the flags of line `at` are changed to tell where l has a cell, and no others
+pub record IsFlagged (l : Line) (at : ℕ) (old new : List (List Bool)) : Type 0 where
+  pub rest : KeepsOthers at old new
   pub here : HasFlags l at new
 
 -- lines of as many columns as the index, the turned one and the spare one

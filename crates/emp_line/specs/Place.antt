@@ -1,5 +1,5 @@
 -- What the steps of a pivot in place keep and give.
-use Rattle.std.specs.Prelude.{◌≢◌, ◌||◌, nat_eq, [], slice_index_or, ◌+◌, ◌≤◌, ◌∷◌, drop, length, cond, int_div, ◌≡◌, ℕ, ◌<◌, ◌^◌, ℤ, ◌+ℤ◌, ◌*ℤ◌, Bool, true, false, List, Option, Some, None, Result, Ok, Err, unsigned_abs}
+use Rattle.std.specs.Prelude.{◌||◌, nat_eq, [], slice_index_or, ◌+◌, ◌≤◌, ◌∷◌, drop, length, cond, int_div, ◌≡◌, ℕ, ◌<◌, ◌^◌, ℤ, ◌+ℤ◌, ◌*ℤ◌, Bool, true, false, List, Option, Some, None, Result, Ok, Err, unsigned_abs}
 use Rattle.std.specs.List.{All}
 use Rattle.emp_algebra.specs.Vector.{cell}
 use Rattle.emp_num.specs.declared.exact.Wide.{Wide}
@@ -9,7 +9,7 @@ use Rattle.emp_line.specs.declared.step.Multipliers.{Multipliers}
 use Rattle.emp_line.specs.declared.cells.Cell.{Cell}
 use Rattle.emp_line.specs.declared.pairs.Next.{Next}
 use Rattle.emp_line.specs.Sparse.{no_cell, pairs}
-use Rattle.emp_line.specs.Indexed.{flag}
+use Rattle.emp_line.specs.Indexed.{KeepsOthers, flag}
 
 -- the two multipliers as numbers without bound
 abbrev pub factors_of : Multipliers → Factors
@@ -68,9 +68,7 @@ abbrev pub stands : ℕ → List Cell → Bool
 stands k [] = false
 stands k (c ∷ cs) = nat_eq c.column k || stands k cs
 
--- line `at` has its flags, in the columns of the first cells, changed to whether one of the second cells stands there, and no other flag is changed
-pub record MarksCells (along own : List Cell) (at : ℕ) (old new : List (List Bool)) : Type 0 where
-  pub columns : length new ≡ length old
-  pub sizes : (k : ℕ) → k < length old → length (slice_index_or new k []) ≡ length (slice_index_or old k [])
-  pub others : (k i : ℕ) → i ≢ at → flag new k i ≡ flag old k i
-  pub here : (k : ℕ) → k < length old → flag new k at ≡ cond (stands k along) (stands k own) (flag old k at)
+-- the flags of line `at` are changed to `value` in the columns of the cells, and no others
+pub record MarksCells (cs : List Cell) (at : ℕ) (value : Bool) (old new : List (List Bool)) : Type 0 where
+  pub rest : KeepsOthers at old new
+  pub here : (k : ℕ) → k < length old → flag new k at ≡ cond (stands k cs) value (flag old k at)

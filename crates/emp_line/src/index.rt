@@ -1,8 +1,8 @@
 //! The index of lines by columns: for each column and each line, whether the line has a cell other than 0 there.
-ghost use Rattle.std.specs.Prelude.{ℕ, ◌≡◌, ◌<◌, ◌≤◌, [], length, replicate, slice_index_or, slice_set, false, IfOk};
+ghost use Rattle.std.specs.Prelude.{ℕ, ◌≡◌, ◌<◌, [], length, replicate, slice_index_or, slice_set, false, IfOk};
 ghost use Rattle.emp_line.specs.Sparse.{no_cell};
 ghost use Rattle.emp_line.specs.Indexed.{flag};
-ghost use Rattle.emp_line.specs.Place.{IsPlace, MarksCells, Rises, stands};
+ghost use Rattle.emp_line.specs.Place.{MarksCells};
 
 use crate::cells::Cell;
 use emp_list::memory::NoMemory;
@@ -63,45 +63,14 @@ pub fn set_flag(index: &mut Seq<Seq<bool>>, column: usize, line: usize, value: b
     index.get_mut(column).set(line, value);
 }
 
-/// The first place, from `from` on, at which no cell before the column stands.
-#[tactic(auto, using(crate::proofs::Marks::passing))]
-fn passed(cells: &[Cell], from: usize, column: usize) -> usize
-    requires rises { Rises cells.now }
-    requires within { from ≤ length cells.now }
-    requires before { (i : ℕ) → i < from → (slice_index_or cells.now i no_cell).column < column }
-    ensures place { IsPlace cells.now column result }
-    ensures within { result ≤ length cells.now }
-{
-    let mut at = from;
-    while at < cells.len() && cells[at].column < column {
-        at += 1;
-    }
-    at
-}
-
-/// Whether the cell at a place, before which all stand before the column, is that of the column.
-#[tactic(auto, using(crate::proofs::Marks::standing))]
-fn stands_at(cells: &[Cell], at: usize, column: usize) -> bool
-    requires rises { Rises cells.now }
-    requires place { IsPlace cells.now column at }
-    ensures { result ≡ stands column cells.now }
-{
-    at < cells.len() && cells[at].column == column
-}
-
-/// Sets or takes away the flags of one line in the columns of the cells `along`, as the line's own cells stand there.
+/// Sets or takes away the flags of one line in the columns of the cells.
 #[tactic(auto, using(crate::proofs::Marks::marking))]
-pub fn mark_cells(index: &mut Seq<Seq<bool>>, along: &[Cell], own: &[Cell], line: usize)
-    requires along { Rises along.now }
-    requires own { Rises own.now }
-    requires columns { (i : ℕ) → i < length along.now → (slice_index_or along.now i no_cell).column < length index.old }
+pub fn mark_cells(index: &mut Seq<Seq<bool>>, cells: &[Cell], line: usize, value: bool)
+    requires columns { (i : ℕ) → i < length cells.now → (slice_index_or cells.now i no_cell).column < length index.old }
     requires places { (k : ℕ) → k < length index.old → line < length (slice_index_or index.old k []) }
-    ensures { MarksCells along.now own.now line index.old index.new }
+    ensures { MarksCells cells.now line value index.old index.new }
 {
-    let mut own_at = 0;
-    for at in 0..along.len() {
-        let column = along[at].column;
-        own_at = passed(own, own_at, column);
-        set_flag(index, column, line, stands_at(own, own_at, column));
+    for at in 0..cells.len() {
+        set_flag(index, cells[at].column, line, value);
     }
 }

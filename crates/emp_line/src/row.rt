@@ -382,16 +382,16 @@ impl Row {
         self.take_reduced(spare, column);
     }
 
-    /// Sets or takes away the flags of line `at` of an index in the columns of the cells of `along`, as this line has cells there.
-    pub fn mark(&self, index: &mut Seq<Seq<bool>>, along: &Row, at: usize)
-        requires width { length along.now.cells ≡ length self.now.cells }
-        requires index { HasPlace (length self.now.cells) at index.old }
-        ensures { IsMarked self.now along.now at index.old index.new }
+    /// Sets or takes away the flags of line `at` of an index in the columns of this line's cells.
+    pub fn mark(&self, index: &mut Seq<Seq<bool>>, at: usize, value: bool)
+        requires { HasPlace (length self.now.cells) at index.old }
+        ensures { IsMarked self.now at value index.old index.new }
     {
-        mark_cells(index, along.cells.as_slice(), self.cells.as_slice(), at);
+        mark_cells(index, self.cells.as_slice(), at, value);
     }
 
-    /// The same as `move_by`, with the flags of the line, which has number `at`. They change only where the turned line has a cell.
+    /// The same as `move_by`, with the flags of the line, which has number `at`.
+    #[tactic(auto, using(crate::proofs::Tables::flagging))]
     pub fn move_flagged(
         &mut self,
         pivot: &Row,
@@ -402,7 +402,6 @@ impl Row {
     )
         requires line { IsLine (length self.old.cells) self.old }
         requires pivot { IsLine (length self.old.cells) pivot.now }
-        requires head { cell pivot.now.cells column ≢ pos 0 }
         requires spare { length spare.old.cells ≡ length self.old.cells }
         requires column { column < length self.old.cells }
         requires nonzero { cell self.old.cells column ≢ pos 0 }
@@ -414,7 +413,8 @@ impl Row {
         ensures spare { length spare.new.cells ≡ length spare.old.cells }
         ensures index { IsFlagged self.new at index.old index.new }
     {
+        self.mark(index, at, false);
         self.move_by(pivot, column, spare);
-        self.mark(index, pivot, at);
+        self.mark(index, at, true);
     }
 }

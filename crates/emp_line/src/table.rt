@@ -98,7 +98,6 @@ fn move_others(
     requires pivot { IsLine (length pivot.now.cells) pivot.now }
     requires spare { length spare.old.cells ≡ length pivot.now.cells }
     requires column { column < length pivot.now.cells }
-    requires head { cell pivot.now.cells column ≢ pos 0 }
     requires index { IsIndex (length pivot.now.cells) index.old lines.old }
     requires lines { (i : ℕ) → i < length lines.old → IsLine (length pivot.now.cells) (slice_index_or lines.old i no_line) }
     requires narrow { (i : ℕ) → i < length lines.old → i ≢ row → moved_wide pivot.now column (slice_index_or lines.old i no_line) ≡ false }
@@ -168,7 +167,7 @@ fn index_of(alloc: Global, width: usize, lines: &[Row]) -> Result<Seq<Seq<bool>>
 {
     let mut index = blank(alloc, width, lines.len())?;
     for at in 0..lines.len() {
-        lines[at].mark(&mut index, &lines[at], at);
+        lines[at].mark(&mut index, at, true);
     }
     Ok(index)
 }

@@ -1,5 +1,6 @@
-use Rattle.emp_line.proofs.Marks.{Marking}
+use Rattle.std.proofs.Common.{take}
+use Rattle.emp_line.specs.Place.{MarksCells}
 use Rattle.emp_line.proofs.index.mark_cells.Given as goal
 
 abbrev pub invariant-loop-at : goal.invariant-loop-at
-invariant-loop-at l = Marking l.along l.own l.line l.at l.own_at l.fn.index l.index
+invariant-loop-at l = MarksCells (take l.at l.cells) l.line l.value l.fn.index l.index

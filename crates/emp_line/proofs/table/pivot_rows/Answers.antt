@@ -1,7 +1,6 @@
-use Rattle.std.proofs.Common.{◌≡◌, ◌≢◌, ◌<◌, ◌∙◌, ℕ, pos, false, Some, List, length, get_or, arith, ap, sym, subst, length-set, get_or-set_same, get_or-set_other}
+use Rattle.std.proofs.Common.{◌≡◌, ◌≢◌, ◌<◌, ◌∙◌, ℕ, false, Some, List, length, get_or, arith, ap, sym, subst, length-set, get_or-set_same, get_or-set_other}
 use Rattle.std.specs.List.{All}
 use Rattle.std.proofs.lemmas.List.{get_or_default}
-use Rattle.emp_algebra.specs.Vector.{cell}
 use Rattle.emp_line.specs.declared.line.Line.{Line}
 use Rattle.emp_line.specs.Pivot.{no_line, turned, moved, pivoted_from}
 use Rattle.emp_line.specs.Lines.{IsLine}
@@ -11,7 +10,7 @@ use Rattle.emp_line.proofs.Sound.{turned_sound}
 use Rattle.emp_line.proofs.Joins.{own_width}
 use Rattle.emp_line.proofs.Exchange.{length-turned}
 use Rattle.emp_line.proofs.Whole.{narrow_others, pivots_back}
-use Rattle.emp_line.proofs.Tables.{head_turned, table_after}
+use Rattle.emp_line.proofs.Tables.{table_after}
 use Rattle.emp_line.proofs.table.pivot_rows.Goals as goal
 use Rattle.emp_line.proofs.table.pivot_rows.Goals.{After-set_turned}
 
@@ -63,12 +62,6 @@ move_others-requires-clause-spare c = let k = (goal.at.move_others-requires-clau
 
 pub move_others-requires-clause-column : goal.move_others-requires-clause-column
 move_others-requires-clause-column c = column (goal.at.move_others-requires-clause-column c).After-set_turned
-
-pub move_others-requires-clause-head : goal.move_others-requires-clause-head
-move_others-requires-clause-head c =
-    let k = (goal.at.move_others-requires-clause-head c).After-set_turned in
-    let l = get_or c.args.lines.now c.args.row no_line in
-    subst (λ (t : Line). cell t.cells c.args.column ≢ pos 0) (sym (same k)) (head_turned l c.args.column c.requires.column c.requires.nonzero (c.requires.lines c.args.row no_line c.requires.row).positive)
 
 pub move_others-requires-clause-index : goal.move_others-requires-clause-index
 move_others-requires-clause-index c = let k = (goal.at.move_others-requires-clause-index c).After-set_turned in subst (λ n. IsIndex n c.args.index.now c.args.lines.now) (sym (width k ∙ table_width k)) c.requires.table.index
