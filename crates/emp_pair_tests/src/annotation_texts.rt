@@ -243,11 +243,9 @@ fn keywords_are_no_names(rt: HostRuntime) -> Result<(), Fail> {
     Ok(())
 }
 
-// One annotation with every item, token by token: what has been written so far is one, or ends too early.
-#[test]
-fn ends_between_tokens(rt: HostRuntime) -> Result<(), Fail> {
-    let model = model_of(rt.alloc(), MODEL.as_bytes())?;
-    let cases = [
+// One annotation with every item, token by token, and what has been written so far: an annotation, or one that ends too early.
+fn tokens_of_one() -> [(&'static str, &'static str); 30] {
+    [
         ("bilevel", "syntax 1:8"),
         (" x", "syntax 1:10"),
         (" dualvar", "syntax 1:18"),
@@ -314,9 +312,14 @@ fn ends_between_tokens(rt: HostRuntime) -> Result<(), Fail> {
             " d",
             "bilevel v1; max v0, v2 e0; vi v1 (e0 v2) e1 e2; min v3,; dual v3 e0; dual v0 e1; visol e1 e2; implicit v2 e2; implicit v0 e0",
         ),
-    ];
+    ]
+}
+
+#[test]
+fn ends_between_tokens(rt: HostRuntime) -> Result<(), Fail> {
+    let model = model_of(rt.alloc(), MODEL.as_bytes())?;
     let mut text = String::new(rt.alloc());
-    for (token, want) in cases {
+    for (token, want) in tokens_of_one() {
         text.push_str(token)?;
         let line = shown(rt.alloc(), &model, text.as_bytes())?;
         assert_eq!(rt; line.as_str(), want, "{text}");
@@ -347,36 +350,38 @@ fn letters(alloc: Global, model: &Model, before: &str, tokens: &[&str]) -> Resul
 }
 
 // Behind each text: a variable, an equation and a name that is neither; the keywords of items; those of heads.
-const FOLLOWERS: [(&str, &str, &str, &str); 22] = [
-    ("", "sss", "ssssss", ".."),
-    ("equilibrium", "sss", "......", "ss"),
-    ("bilevel", ".wu", "......", "ss"),
-    ("bilevel x", ".wu", "......", "ss"),
-    ("equilibrium min", ".wu", "ssssss", "ss"),
-    ("equilibrium max", ".wu", "ssssss", "ss"),
-    ("equilibrium max x", "..u", "......", "ss"),
-    ("equilibrium min x p", "..u", "......", "ss"),
-    ("equilibrium min x d", "w.u", "......", "ss"),
-    ("equilibrium vi", "..u", "ssssss", "ss"),
-    ("equilibrium vi x", "..u", "......", "ss"),
-    ("equilibrium vi d", "..u", "......", "ss"),
-    ("equilibrium vi d x", "w.u", "......", "ss"),
-    ("equilibrium vi d x e", "..u", "......", "ss"),
-    ("equilibrium vi d e", "w.u", "......", "ss"),
-    ("equilibrium dualvar", ".wu", "ssssss", "ss"),
-    ("equilibrium dualvar x", "w.u", "ssssss", "ss"),
-    ("equilibrium dualvar x d", ".wu", "......", "ss"),
-    ("equilibrium visol", "w.u", "ssssss", "ss"),
-    ("equilibrium visol d", "w.u", "......", "ss"),
-    ("equilibrium implicit x", "w.u", "ssssss", "ss"),
-    ("equilibrium implicit x d", ".wu", "......", "ss"),
-];
+fn followers() -> [(&'static str, &'static str, &'static str, &'static str); 22] {
+    [
+        ("", "sss", "ssssss", ".."),
+        ("equilibrium", "sss", "......", "ss"),
+        ("bilevel", ".wu", "......", "ss"),
+        ("bilevel x", ".wu", "......", "ss"),
+        ("equilibrium min", ".wu", "ssssss", "ss"),
+        ("equilibrium max", ".wu", "ssssss", "ss"),
+        ("equilibrium max x", "..u", "......", "ss"),
+        ("equilibrium min x p", "..u", "......", "ss"),
+        ("equilibrium min x d", "w.u", "......", "ss"),
+        ("equilibrium vi", "..u", "ssssss", "ss"),
+        ("equilibrium vi x", "..u", "......", "ss"),
+        ("equilibrium vi d", "..u", "......", "ss"),
+        ("equilibrium vi d x", "w.u", "......", "ss"),
+        ("equilibrium vi d x e", "..u", "......", "ss"),
+        ("equilibrium vi d e", "w.u", "......", "ss"),
+        ("equilibrium dualvar", ".wu", "ssssss", "ss"),
+        ("equilibrium dualvar x", "w.u", "ssssss", "ss"),
+        ("equilibrium dualvar x d", ".wu", "......", "ss"),
+        ("equilibrium visol", "w.u", "ssssss", "ss"),
+        ("equilibrium visol d", "w.u", "......", "ss"),
+        ("equilibrium implicit x", "w.u", "ssssss", "ss"),
+        ("equilibrium implicit x d", ".wu", "......", "ss"),
+    ]
+}
 
 #[test]
 fn names_follow(rt: HostRuntime) -> Result<(), Fail> {
     let model = model_of(rt.alloc(), MODEL.as_bytes())?;
     let names = ["x", "d", "q"];
-    for (before, want, _, _) in FOLLOWERS {
+    for (before, want, _, _) in followers() {
         let line = letters(rt.alloc(), &model, before, &names)?;
         assert_eq!(rt; line.as_str(), want, "{before}");
     }
@@ -387,7 +392,7 @@ fn names_follow(rt: HostRuntime) -> Result<(), Fail> {
 fn items_follow(rt: HostRuntime) -> Result<(), Fail> {
     let model = model_of(rt.alloc(), MODEL.as_bytes())?;
     let items = ["min", "max", "vi", "dualvar", "visol", "implicit"];
-    for (before, _, want, _) in FOLLOWERS {
+    for (before, _, want, _) in followers() {
         let line = letters(rt.alloc(), &model, before, &items)?;
         assert_eq!(rt; line.as_str(), want, "{before}");
     }
@@ -398,7 +403,7 @@ fn items_follow(rt: HostRuntime) -> Result<(), Fail> {
 fn heads_follow(rt: HostRuntime) -> Result<(), Fail> {
     let model = model_of(rt.alloc(), MODEL.as_bytes())?;
     let heads = ["equilibrium", "bilevel"];
-    for (before, _, _, want) in FOLLOWERS {
+    for (before, _, _, want) in followers() {
         let line = letters(rt.alloc(), &model, before, &heads)?;
         assert_eq!(rt; line.as_str(), want, "{before}");
     }
@@ -418,7 +423,7 @@ fn nothing_else_follows(rt: HostRuntime) -> Result<(), Fail> {
         ";",
         "-",
     ];
-    for (before, _, _, _) in FOLLOWERS {
+    for (before, _, _, _) in followers() {
         let line = letters(rt.alloc(), &model, before, &others)?;
         assert_eq!(rt; line.as_str(), "ssssssss", "{before}");
     }
