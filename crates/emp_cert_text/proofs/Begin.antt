@@ -4,7 +4,7 @@ use Rattle.std.specs.Io.BufRead.{take_through, drop_through}
 use Rattle.std.proofs.lemmas.Int.{ints}
 use Rattle.std.proofs.lemmas.List.Elements.{All-nil, All-cons}
 use Rattle.emp_num.specs.Exact.{IsNarrow}
-use Rattle.emp_num.specs.FracText.{fraction_text}
+use Rattle.emp_numeral.specs.FracText.{fraction_text}
 use Rattle.emp_num.specs.Whole.{whole}
 use Rattle.emp_num.specs.declared.frac.Frac.{Frac}
 use Rattle.emp_cert.specs.Certs.{Counts}

@@ -7,8 +7,8 @@ use Rattle.std.proofs.lemmas.List.{append_cancel_left}
 use Rattle.std.proofs.lemmas.List.Elements.{All-nil, All-cons, All-head, All-tail}
 use Rattle.emp_algebra.specs.Vector.{cell}
 use Rattle.emp_num.specs.Exact.{IsNarrow}
-use Rattle.emp_num.specs.FracText.{fraction_text}
-use Rattle.emp_num.specs.Numeral.{first}
+use Rattle.emp_numeral.specs.FracText.{fraction_text}
+use Rattle.emp_numeral.specs.Numeral.{first}
 use Rattle.emp_num.specs.declared.frac.Frac.{Frac}
 use Rattle.emp_rows.specs.Points.{IsNumber}
 use Rattle.emp_cert.specs.Certs.{Counts}

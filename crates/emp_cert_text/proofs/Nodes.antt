@@ -9,7 +9,7 @@ use Rattle.std.proofs.lemmas.List.{append_cancel_left}
 use Rattle.std.proofs.lemmas.List.Elements.{All-nil, All-cons}
 use Rattle.emp_algebra.specs.Vector.{cell}
 use Rattle.emp_num.specs.Exact.{IsNarrow}
-use Rattle.emp_num.specs.Numeral.{first}
+use Rattle.emp_numeral.specs.Numeral.{first}
 use Rattle.emp_rows.specs.Points.{IsNumber}
 use Rattle.emp_cert.specs.Certs.{NodeFits}
 use Rattle.emp_cert.specs.declared.tree.Node.{Node}

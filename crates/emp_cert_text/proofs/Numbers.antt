@@ -9,10 +9,10 @@ use Rattle.std.proofs.lemmas.List.{drop_more, drop_all, take_more, take_all, tak
 use Rattle.std.proofs.lemmas.Int.{ints, to_z-of_z}
 use Rattle.std.proofs.lemmas.Fmt.{decimal_digit, decimal_step_wide, decimal_by_steps_wide}
 use Rattle.emp_num.specs.Exact.{IsNarrow, IsWide, IsCoprime}
-use Rattle.emp_num.specs.FracText.{is_one, fraction_text}
-use Rattle.emp_num.specs.Numeral.{digit, value_from, first}
+use Rattle.emp_numeral.specs.FracText.{is_one, fraction_text}
+use Rattle.emp_numeral.specs.Numeral.{digit, value_from, first}
 use Rattle.emp_num.specs.declared.frac.Frac.{Frac}
-use Rattle.emp_num.proofs.Numerals.{value_grows}
+use Rattle.emp_numeral.proofs.Numerals.{value_grows}
 use Rattle.emp_cert_text.specs.Words.{are_digits, value, is_count, is_whole, whole, IsFraction, CountGives, NumberGives, LowestGives, FractionGives, lacks, first_word, after_word}
 use Rattle.emp_cert_text.specs.declared.words.Number.{Number}
 use Rattle.emp_cert_text.specs.declared.words.Number.TheVariants.{No, Outside, Is}

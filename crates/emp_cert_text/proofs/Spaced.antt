@@ -5,8 +5,8 @@ use Rattle.std.proofs.lemmas.Bool.{and_parts, and_from, cases_eq, cases_Bool, tr
 use Rattle.std.proofs.lemmas.Int.{ints, to_z-of_z}
 use Rattle.std.proofs.lemmas.List.Elements.{All-nil, All-cons, All-append, All-head, All-tail}
 use Rattle.emp_num.specs.Exact.{IsNarrow, IsWide}
-use Rattle.emp_num.specs.FracText.{fraction_text}
-use Rattle.emp_num.specs.Numeral.{digit, first}
+use Rattle.emp_numeral.specs.FracText.{fraction_text}
+use Rattle.emp_numeral.specs.Numeral.{digit, first}
 use Rattle.emp_num.specs.Whole.{zero_below_limit}
 use Rattle.emp_num.specs.declared.frac.Frac.{Frac}
 use Rattle.emp_cert_text.specs.Text.{spaced}

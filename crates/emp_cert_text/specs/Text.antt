@@ -1,7 +1,7 @@
 -- The text of a certificate. Each certificate has one.
 use Rattle.std.specs.Prelude.{ℕ, ◌+◌, Bool, true, false, cond, ℤ, List, [], ◌∷◌, ◌++◌, map, codes, decimal, Option, Some, None}
 use Rattle.std.specs.Fmt.{signed_decimal}
-use Rattle.emp_num.specs.FracText.{fraction_text}
+use Rattle.emp_numeral.specs.FracText.{fraction_text}
 use Rattle.emp_num.specs.declared.frac.Frac.{Frac}
 use Rattle.emp_rows.specs.Values.{is_zero}
 use Rattle.emp_cert.specs.declared.cert.Cert.{Cert}

@@ -1,8 +1,8 @@
 -- Words that write whole numbers and fractions, of any size.
 use Rattle.std.specs.Prelude.{◌≡◌, ◌⊎◌, ℕ, ◌^◌, ◌≤◌, ◌<◌, Bool, true, false, cond, not, ◌&&◌, ◌||◌, nat_lt, nat_eq, ℤ, pos, neg_ℤ, List, [], ◌∷◌, ◌++◌, length}
 use Rattle.emp_num.specs.Exact.{IsNarrow, IsWide, IsCoprime}
-use Rattle.emp_num.specs.Numeral.{digit, value_from}
-use Rattle.emp_num.specs.FracText.{fraction_text}
+use Rattle.emp_numeral.specs.Numeral.{digit, value_from}
+use Rattle.emp_numeral.specs.FracText.{fraction_text}
 use Rattle.emp_num.specs.declared.frac.Frac.{Frac}
 use Rattle.emp_cert_text.specs.declared.words.Number.{Number}
 use Rattle.emp_cert_text.specs.declared.words.Number.TheVariants.{No, Outside, Is}

@@ -2,13 +2,13 @@
 ghost use Rattle.std.specs.Prelude.{◌≡◌, ◌++◌, ◌∷◌, ◌+◌, ◌≤◌, ◌<◌, [], ℕ, ℤ, List, map, length, decimal, codes, OnOk};
 ghost use Rattle.std.specs.Fmt.{signed_decimal};
 ghost use Rattle.emp_algebra.specs.Vector.{cell};
-ghost use Rattle.emp_num.specs.FracText.{fraction_text};
+ghost use Rattle.emp_numeral.specs.FracText.{fraction_text};
 ghost use Rattle.emp_cert_text.specs.Text.{spaced, line, sparse, factors, node_text, point_text, ray_text, pair_text, pairs_text};
 ghost use Rattle.emp_cert_text.specs.Writing.{HasFew};
 
 use emp_cert::tree::Node;
 use emp_num::frac::Frac;
-use emp_num::print::print_frac;
+use emp_numeral::print::print_frac;
 use itoa::Buffer;
 use std::alloc::AllocError;
 

@@ -2,7 +2,7 @@
 ghost use Rattle.std.specs.Prelude.{◌≡◌, ◌≤◌, ◌<◌, ◌^◌, ◌+◌, ◌-◌, ◌*◌, [], ◌∷◌, ◌++◌, ℕ, length, take, drop, true, nat_eq, pos, ◌<ℤ◌, MatchOption};
 ghost use Rattle.std.specs.Bool.{Decides};
 ghost use Rattle.emp_num.specs.Exact.{IsNarrow, IsWide};
-ghost use Rattle.emp_num.specs.Numeral.{digit, first};
+ghost use Rattle.emp_numeral.specs.Numeral.{digit, first};
 ghost use Rattle.emp_cert_text.specs.Words.{are_digits, value, is_count, is_whole, whole, CountGives, NumberGives, LowestGives, FractionGives, lacks, first_word, after_word};
 
 use emp_num::exact::{LIMIT, gcd};
@@ -62,7 +62,7 @@ fn with_digit(number: u128, digit: u8) -> Option<u128>
 }
 
 /// The number that digits write, and none where it is 2^126 or more.
-#[tactic(auto, using(emp_num::proofs::Numerals::valuing))]
+#[tactic(auto, using(emp_numeral::proofs::Numerals::valuing))]
 fn value_of(digits: &[u8]) -> Option<u128>
     ensures { MatchOption result (2 ^ 126 ≤ value digits.now) (λ v. (v ≡ value digits.now) × (v < 2 ^ 126)) }
 {

@@ -9,8 +9,8 @@ use Rattle.emp_num.specs.Exact.{IsNarrow}
 use Rattle.emp_num.specs.FracSpec.{IsQuotient}
 use Rattle.emp_num.specs.Gcd.{gcd_of}
 use Rattle.emp_num.specs.declared.frac.Frac.{Frac}
-use Rattle.emp_num.specs.declared.numeral.NumeralFault.TheVariants.{Wide}
-use Rattle.emp_num.specs.Numeral.{numeral_form, top_of, bottom_of, FormedSmall, FormedLarge, DecimalGives, FormGives, NumeralGives}
+use Rattle.emp_numeral.specs.declared.numeral.NumeralFault.TheVariants.{Wide}
+use Rattle.emp_numeral.specs.Numeral.{numeral_form, top_of, bottom_of, FormedSmall, FormedLarge, DecimalGives, FormGives, NumeralGives}
 use Rattle.emp_num.specs.Whole.{whole}
 use Rattle.emp_algebra.proofs.Ring.{lit, var, ◌⊗◌, by_ring}
 use Rattle.emp_num.proofs.Divisors.{IsGcd-gcd_of}

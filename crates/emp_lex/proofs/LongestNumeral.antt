@@ -5,10 +5,10 @@ use Rattle.std.proofs.lemmas.Bool.{ne_eqb}
 use Rattle.std.proofs.lemmas.Bool.Decides.{nat_tests}
 use Rattle.std.proofs.lemmas.List.Elements.{All-nil, All-cons, All-head, All-tail}
 use Rattle.std.proofs.lemmas.List.{length-append}
-use Rattle.emp_num.specs.Numeral.{digit, whole_of, numeral_form}
-use Rattle.emp_num.specs.NumeralText.{PointText, no_point, point, SignText, no_sign, plus, minus, ExponentText, no_exponent, exponent}
-use Rattle.emp_num.specs.NumeralText.{AllDigits as EachDigit}
-use Rattle.emp_num.proofs.NumeralTexts.{is_text}
+use Rattle.emp_numeral.specs.Numeral.{digit, whole_of, numeral_form}
+use Rattle.emp_numeral.specs.NumeralText.{PointText, no_point, point, SignText, no_sign, plus, minus, ExponentText, no_exponent, exponent}
+use Rattle.emp_numeral.specs.NumeralText.{AllDigits as EachDigit}
+use Rattle.emp_numeral.proofs.NumeralTexts.{is_text}
 use Rattle.emp_lex.specs.declared.scan.Class.{Class}
 use Rattle.emp_lex.specs.declared.scan.Class.TheVariants.{Digit}
 use Rattle.emp_lex.specs.Bytes.{is_of, is_digit, is_exponent_mark, is_sign, run_size}

@@ -6,7 +6,7 @@ use Rattle.std.proofs.lemmas.Bool.Decides.{nat_tests}
 use Rattle.std.proofs.lemmas.List.Elements.{All-nil, All-cons, All-head, All-tail}
 use Rattle.std.proofs.lemmas.List.{length-append, get_or-append-add}
 use Rattle.std.proofs.Math.Seq.{take-append_seam, drop-append-add}
-use Rattle.emp_num.specs.Numeral.{digit, digits_of, after_digits, first, is_empty, only_digits, exponent_form, numeral_form}
+use Rattle.emp_numeral.specs.Numeral.{digit, digits_of, after_digits, first, is_empty, only_digits, exponent_form, numeral_form}
 use Rattle.emp_lex.specs.declared.scan.Class.{Class}
 use Rattle.emp_lex.specs.declared.scan.Class.TheVariants.{Digit}
 use Rattle.emp_lex.specs.Bytes.{is_of, is_digit, is_exponent_mark, is_sign, run_size}

@@ -2,8 +2,8 @@
 use Rattle.std.proofs.Common.{◌≡◌, ℕ, ◌<◌, Bool, true, false, List, ◌⊎◌, inl, inr, ℤ, arith}
 use Rattle.std.specs.Prelude.{Ok, Err}
 use Rattle.emp_num.specs.declared.frac.Frac.{Frac}
-use Rattle.emp_num.specs.declared.numeral.NumeralFault.TheVariants.{Form, Wide}
-use Rattle.emp_num.specs.Numeral.{FormGives, FormedSmall, FormedLarge, NumeralGives}
+use Rattle.emp_numeral.specs.declared.numeral.NumeralFault.TheVariants.{Form, Wide}
+use Rattle.emp_numeral.specs.Numeral.{FormGives, FormedSmall, FormedLarge, NumeralGives}
 
 small_or_large : (m : ℕ) (s : ℤ) → FormedSmall m s → FormedLarge m s → ⊥
 small_or_large m s h (inl k) = absurd (omega arith)

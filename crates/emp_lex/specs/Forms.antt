@@ -1,6 +1,6 @@
 -- The forms of tokens.
 use Rattle.std.specs.Prelude.{◌≡◌, ℕ, ◌≤◌, true, ◌⊎◌, IsTrue, List, [], ◌∷◌, ◌++◌, length, All, codes, slice_index, slice_range}
-use Rattle.emp_num.specs.Numeral.{numeral_form}
+use Rattle.emp_numeral.specs.Numeral.{numeral_form}
 use Rattle.emp_lex.specs.declared.token.Token.{Token}
 use Rattle.emp_lex.specs.declared.token.TokenKind.{TokenKind}
 use Rattle.emp_lex.specs.declared.token.TokenKind.TheVariants.{Name, Numeral, Text, Relation, Symbol}

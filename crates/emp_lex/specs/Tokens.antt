@@ -1,8 +1,8 @@
 -- The tokens of a text, and the first fault in it.
 use Rattle.std.specs.Prelude.{◌≡◌, ℕ, ◌+◌, Bool, cond, nat_eq, List, [], ◌∷◌, take, drop, Option, Some, None, true, false, Err}
 use Rattle.emp_ast.specs.declared.tree.Place.{Place}
-use Rattle.emp_num.specs.declared.numeral.NumeralFault.TheVariants.{Wide}
-use Rattle.emp_num.specs.Numeral.{NumeralGives}
+use Rattle.emp_numeral.specs.declared.numeral.NumeralFault.TheVariants.{Wide}
+use Rattle.emp_numeral.specs.Numeral.{NumeralGives}
 use Rattle.emp_lex.specs.declared.token.Token.{Token}
 use Rattle.emp_lex.specs.declared.token.TokenKind.{TokenKind}
 use Rattle.emp_lex.specs.declared.token.TokenKind.TheVariants.{Name, Numeral, Text, Relation, Symbol}

@@ -6,7 +6,7 @@ use crate::fault::LexFault;
 use crate::piece::{Defect, Step, next_step};
 use crate::token::{Token, TokenKind};
 use emp_ast::tree::Place;
-use emp_num::numeral::{NumeralFault, read_numeral};
+use emp_numeral::numeral::{NumeralFault, read_numeral};
 use std::alloc::Global;
 
 /// The place behind a byte.

@@ -1,6 +1,6 @@
 -- What `make` answers: a market is made, its row system is searched with the default work, and its equilibrium is summed up.
 use Rattle.std.specs.Prelude.{◌≡◌, ◌≢◌, ℕ, zero, suc, ◌+◌, ◌/◌, ◌<◌, List, [], ◌∷◌, ◌++◌, codes, decimal, Option, Some, None, Result, Ok, Err}
-use Rattle.emp_num.specs.FracText.{fraction_text}
+use Rattle.emp_numeral.specs.FracText.{fraction_text}
 use Rattle.emp_num.specs.Whole.{whole}
 use Rattle.emp_num.specs.declared.frac.Frac.{Frac}
 use Rattle.emp_ast.specs.declared.tree.VarId.{VarId}

@@ -5,9 +5,6 @@ pub mod Ratio
 pub mod Point
 pub mod Whole
 pub mod Orders
-pub mod FracText
-pub mod Numeral
 pub mod FracLaws
-pub mod NumeralText
 pub mod Opposite
 pub mod SamePoint

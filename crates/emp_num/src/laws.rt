@@ -1,6 +1,5 @@
-//! The laws of fractions and numerals, stated for the layers above.
+//! The laws of fractions, stated for the layers above.
 ghost use Rattle.emp_num.specs.FracLaws.{OrderIsTotal, EqualAreSame, SignsOfQuotients, SignsOfResults};
-ghost use Rattle.emp_num.specs.NumeralText.{NumeralsAreTexts};
 ghost use Rattle.emp_num.specs.SamePoint.{SameIsEquivalence, StandsForSame, LowestAreFractions, SamePointExamples};
 
 /// The order is total, and a comparison has one answer.
@@ -21,11 +20,6 @@ pub fn signs_of_quotients()
 /// Sums and products of fractions that are not below 0 are not below 0.
 pub fn signs_of_results()
     ensures { SignsOfResults }
-{}
-
-/// A text has a numeral's form exactly where it is put together from a numeral's parts, which are those that are read.
-pub fn numerals_are_texts()
-    ensures { NumeralsAreTexts }
 {}
 
 /// Points with equal coordinates: each is the same as itself, both ways, and on.

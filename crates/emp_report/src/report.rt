@@ -2,14 +2,14 @@
 ghost use Rattle.std.specs.Prelude.{◌≡◌, ◌++◌, codes, decimal, map, IfOk, OnOk};
 ghost use Rattle.std.specs.Fmt.{signed_decimal};
 ghost use Rattle.emp_report.specs.Report.{best_report, equilibrium_report, factors_text, missing_report, missing_text, point_lines, row_text, step_line, step_lines, unbounded_report, value_line, work_text};
-ghost use Rattle.emp_num.specs.FracText.{fraction_text};
+ghost use Rattle.emp_numeral.specs.FracText.{fraction_text};
 ghost use Rattle.emp_ast.specs.Names.{variable_names};
 
 use emp_ast::model::{Model, Variable};
 use emp_cert::tree::Node;
 use emp_list::name::Name;
 use emp_num::frac::Frac;
-use emp_num::print::print_frac;
+use emp_numeral::print::print_frac;
 use itoa::Buffer;
 use std::alloc::{AllocError, Global};
 

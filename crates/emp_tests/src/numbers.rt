@@ -159,7 +159,7 @@ mod order {
 
 mod print {
     use emp_num::frac::Frac;
-    use emp_num::print::print_frac;
+    use emp_numeral::print::print_frac;
     use std::test::Fail;
 
     const MOST: i128 = 85070591730234615865843651857942052863;
@@ -184,7 +184,7 @@ mod print {
 }
 
 mod numeral {
-    use emp_num::numeral::{NumeralFault, read_numeral};
+    use emp_numeral::numeral::{NumeralFault, read_numeral};
     use std::test::Fail;
 
     const MOST: i128 = 85070591730234615865843651857942052863;

@@ -4,9 +4,9 @@ use Rattle.std.specs.Prelude.{Result, Ok, Err, is_ok, slice_range}
 use Rattle.std.proofs.lemmas.List.{take_more, take_all}
 use Rattle.std.proofs.lemmas.List.Elements.{All-nil, All-cons}
 use Rattle.emp_num.specs.declared.frac.Frac.{Frac}
-use Rattle.emp_num.specs.declared.numeral.NumeralFault.{NumeralFault}
-use Rattle.emp_num.specs.declared.numeral.NumeralFault.TheVariants.{Form, Wide}
-use Rattle.emp_num.specs.Numeral.{NumeralGives, FormGives, numeral_form}
+use Rattle.emp_numeral.specs.declared.numeral.NumeralFault.{NumeralFault}
+use Rattle.emp_numeral.specs.declared.numeral.NumeralFault.TheVariants.{Form, Wide}
+use Rattle.emp_numeral.specs.Numeral.{NumeralGives, FormGives, numeral_form}
 use Rattle.emp_ast.specs.declared.tree.Place.{Place}
 use Rattle.emp_lex.specs.declared.token.Token.{Token}
 use Rattle.emp_lex.specs.declared.fault.LexFault.{LexFault}

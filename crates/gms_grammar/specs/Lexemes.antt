@@ -1,7 +1,7 @@
 -- What the tokens of a text are to the grammar. Keywords are no names; letters are compared without case.
 use Rattle.std.specs.Prelude.{◌≡◌, ℕ, List, [], ◌∷◌, codes, Ok, slice_range}
 use Rattle.emp_num.specs.declared.frac.Frac.{Frac}
-use Rattle.emp_num.specs.Numeral.{NumeralGives}
+use Rattle.emp_numeral.specs.Numeral.{NumeralGives}
 use Rattle.emp_list.specs.Case.{lower}
 use Rattle.emp_ast.specs.declared.model.Relation.{Relation}
 use Rattle.emp_ast.specs.declared.model.Relation.TheVariants.{Equal, AtLeast, AtMost, Nothing}

@@ -1,7 +1,7 @@
 //! From tokens to lexemes.
 ghost use Rattle.std.specs.Prelude.{◌≡◌, true, Err, IfOk, slice_range};
-ghost use Rattle.emp_num.specs.declared.numeral.NumeralFault.TheVariants.{Wide};
-ghost use Rattle.emp_num.specs.Numeral.{NumeralGives, numeral_form};
+ghost use Rattle.emp_numeral.specs.declared.numeral.NumeralFault.TheVariants.{Wide};
+ghost use Rattle.emp_numeral.specs.Numeral.{NumeralGives, numeral_form};
 ghost use Rattle.emp_lex.specs.declared.token.TokenKind.TheVariants.{Numeral as NumeralToken};
 ghost use Rattle.emp_lex.specs.Forms.{HasForm};
 ghost use Rattle.emp_lex.specs.Tokens.{IsTokenList, IsTooWide};
@@ -13,7 +13,7 @@ use crate::lexeme::{Domain, Lexeme, Scale, Sign, Sort, Word};
 use emp_ast::model::Relation;
 use emp_lex::token::{Token, TokenKind, part};
 use emp_lex::word::of_words;
-use emp_num::numeral::read_numeral;
+use emp_numeral::numeral::read_numeral;
 use std::alloc::{AllocError, Global};
 
 /// The word that a name in lower case is.

@@ -3,7 +3,7 @@ use Rattle.std.proofs.Common.{◌≡◌, ◌⊎◌, inl, inr, ℕ, zero, suc, Bo
 use Rattle.std.proofs.lemmas.Int.{ints}
 use Rattle.std.proofs.lemmas.List.Elements.{All-head, All-tail}
 use Rattle.emp_num.specs.declared.frac.Frac.{Frac}
-use Rattle.emp_num.specs.Numeral.{numeral_form, NumeralGives, FormGives}
+use Rattle.emp_numeral.specs.Numeral.{numeral_form, NumeralGives, FormGives}
 use Rattle.emp_num.specs.Opposite.{opposite, same_size}
 use Rattle.emp_num.proofs.Same.{frac_eq}
 use Rattle.emp_ast.specs.declared.model.End.{End}

@@ -6,10 +6,10 @@ use Rattle.std.proofs.lemmas.Bool.Decides.{nat_tests}
 use Rattle.std.proofs.lemmas.List.Elements.{All-head, All-tail}
 use Rattle.std.proofs.lemmas.List.{length-append, drop-drop}
 use Rattle.std.proofs.Math.Seq.{take-append_seam, drop-append_seam}
-use Rattle.emp_num.specs.Numeral.{digit, is_mark, whole_of, numeral_form}
-use Rattle.emp_num.specs.NumeralText.{PointText, no_point, point, SignText, no_sign, plus, minus, ExponentText, no_exponent, exponent}
-use Rattle.emp_num.specs.NumeralText.{AllDigits as EachDigit}
-use Rattle.emp_num.proofs.NumeralTexts.{is_text}
+use Rattle.emp_numeral.specs.Numeral.{digit, is_mark, whole_of, numeral_form}
+use Rattle.emp_numeral.specs.NumeralText.{PointText, no_point, point, SignText, no_sign, plus, minus, ExponentText, no_exponent, exponent}
+use Rattle.emp_numeral.specs.NumeralText.{AllDigits as EachDigit}
+use Rattle.emp_numeral.proofs.NumeralTexts.{is_text}
 use Rattle.emp_ast.specs.declared.tree.Place.{Place}
 use Rattle.emp_lex.specs.declared.token.Token.{Token}
 use Rattle.emp_lex.specs.declared.token.TokenKind.{TokenKind}

@@ -8,9 +8,9 @@ use Rattle.std.proofs.lemmas.Int.{ints}
 use Rattle.std.proofs.lemmas.Bool.{lt-ltb}
 use Rattle.std.proofs.lemmas.List.Elements.{All-push, All-nil}
 use Rattle.emp_num.specs.declared.frac.Frac.{Frac}
-use Rattle.emp_num.specs.Numeral.{digit, value_from, trimmed}
-use Rattle.emp_num.proofs.Numerals.{power_above as pow_above}
-use Rattle.emp_num.proofs.Digits.{trimmed_other}
+use Rattle.emp_numeral.specs.Numeral.{digit, value_from, trimmed}
+use Rattle.emp_numeral.proofs.Numerals.{power_above as pow_above}
+use Rattle.emp_numeral.proofs.Digits.{trimmed_other}
 use Rattle.gms_print.specs.Canonical.{IsDecimal, IsNumeral, sign_text, with_fraction}
 use Rattle.gms_print.specs.Decimals.{Adds, HasPlaces, AreDigits, pointed, IsFraction}
 

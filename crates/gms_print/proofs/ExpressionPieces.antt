@@ -2,7 +2,7 @@
 use Rattle.std.proofs.Common.{IsTrue, All, ◌≡◌, ℕ, true, false, nat_eq, List, [], ◌∷◌, ◌++◌, length, codes, slice_index, Ok, refl, sym, ap, ◌∙◌, subst, arith, append_assoc, ne_eqb}
 use Rattle.std.proofs.lemmas.List.Elements.{All-nil, All-cons}
 use Rattle.emp_num.specs.declared.frac.Frac.{Frac}
-use Rattle.emp_num.specs.Numeral.{numeral_form, NumeralGives}
+use Rattle.emp_numeral.specs.Numeral.{numeral_form, NumeralGives}
 use Rattle.emp_lex.specs.declared.token.TokenKind.TheVariants.{Name, Numeral, Symbol}
 use Rattle.emp_lex.specs.declared.scan.Class.TheVariants.{Word}
 use Rattle.emp_lex.specs.Bytes.{is_of, is_letter}

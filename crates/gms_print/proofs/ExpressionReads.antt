@@ -2,7 +2,7 @@
 -- and parentheses that are nested no deeper than its own.
 use Rattle.std.proofs.Common.{◌≡◌, ℕ, ◌+◌, ◌<◌, ◌≤◌, true, false, nat_eq, List, [], ◌++◌, length, decimal, slice_index, slice_index_or, Some, None, Ok}
 use Rattle.emp_num.specs.declared.frac.Frac.{Frac}
-use Rattle.emp_num.specs.Numeral.{numeral_form, NumeralGives}
+use Rattle.emp_numeral.specs.Numeral.{numeral_form, NumeralGives}
 use Rattle.emp_list.specs.Case.{lower}
 use Rattle.emp_ast.specs.Expression.{Expression}
 use Rattle.emp_lex.specs.declared.scan.Class.TheVariants.{Word}

@@ -6,7 +6,7 @@ use Rattle.std.proofs.lemmas.Bool.{both_ways, and_parts, not-true, cond_both}
 use Rattle.std.proofs.Math.Nat.{le-max_left, le-max_right}
 use Rattle.std.proofs.lemmas.List.Elements.{recursion_from_All}
 use Rattle.emp_num.specs.declared.frac.Frac.{Frac}
-use Rattle.emp_num.specs.Numeral.{NumeralGives}
+use Rattle.emp_numeral.specs.Numeral.{NumeralGives}
 use Rattle.emp_num.specs.Opposite.{opposite}
 use Rattle.emp_num.proofs.Same.{frac_eq}
 use Rattle.emp_list.specs.Case.{lower}

@@ -15,11 +15,11 @@ use Rattle.std.proofs.Math.Nat.{pow-suc, one-le-pow, le_of_mul-le-mul_left}
 use Rattle.std.proofs.Math.IntN.{pos-*ℤ-pos, +ℤ_idl}
 use Rattle.emp_num.specs.declared.frac.Frac.{Frac}
 use Rattle.emp_num.specs.FracSpec.{IsQuotient}
-use Rattle.emp_num.specs.Numeral.{digit, value_from, before_trimmed, trimmed, numeral_form, whole_of, fraction_of, tail_of, exponent_negative, mantissa, scale, Small, DecimalGives, FormGives, NumeralGives}
-use Rattle.emp_num.specs.NumeralText.{AllDigits, no_point, point, no_exponent, IsNumeral as IsNumeralText}
+use Rattle.emp_numeral.specs.Numeral.{digit, value_from, before_trimmed, trimmed, numeral_form, whole_of, fraction_of, tail_of, exponent_negative, mantissa, scale, Small, DecimalGives, FormGives, NumeralGives}
+use Rattle.emp_numeral.specs.NumeralText.{AllDigits, no_point, point, no_exponent, IsNumeral as IsNumeralText}
 use Rattle.emp_num.specs.Whole.{whole, whole_by}
-use Rattle.emp_num.proofs.Numerals.{value_grows}
-use Rattle.emp_num.proofs.NumeralTexts.{has_form}
+use Rattle.emp_numeral.proofs.Numerals.{value_grows}
+use Rattle.emp_numeral.proofs.NumeralTexts.{has_form}
 use Rattle.gms_read.specs.Rules.{exponent}
 use Rattle.gms_print.specs.Canonical.{with_fraction, IsDecimal}
 use Rattle.gms_print.proofs.Sound.{IsValue}

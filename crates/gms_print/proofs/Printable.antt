@@ -7,10 +7,10 @@ use Rattle.std.proofs.lemmas.Nat.Gcd.{dvd_refl, dvd-zero}
 use Rattle.std.proofs.lemmas.List.Elements.{All-weaker}
 use Rattle.emp_num.specs.declared.frac.Frac.{Frac}
 use Rattle.emp_num.specs.FracSpec.{IsQuotient}
-use Rattle.emp_num.specs.Numeral.{FormedSmall, DecimalGives, FormGives, numeral_form, mantissa, whole_of, fraction_of, tail_of, scale, exponent_negative, exponent_digits, value_from}
+use Rattle.emp_numeral.specs.Numeral.{FormedSmall, DecimalGives, FormGives, numeral_form, mantissa, whole_of, fraction_of, tail_of, scale, exponent_negative, exponent_digits, value_from}
 use Rattle.emp_num.specs.Opposite.{opposite}
 use Rattle.emp_num.proofs.Lowest.{gauss, coprime-IsGcd}
-use Rattle.emp_num.proofs.Numerals.{power_above}
+use Rattle.emp_numeral.proofs.Numerals.{power_above}
 use Rattle.emp_ast.specs.declared.tree.Tree.{Tree}
 use Rattle.emp_ast.specs.declared.model.End.{End}
 use Rattle.emp_ast.specs.declared.model.End.TheVariants.{Open, At}

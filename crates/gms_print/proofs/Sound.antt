@@ -1,7 +1,7 @@
 -- What each model has that some text stands for.
 use Rattle.std.proofs.Common.{◌≡◌, ◌≢◌, ◌⊎◌, ℕ, ◌+◌, ◌<◌, ◌≤◌, max, Bool, true, false, not, List, [], ◌∷◌, ◌++◌, length, All, AllPairs, Option, Some, None, Ok}
 use Rattle.emp_num.specs.declared.frac.Frac.{Frac}
-use Rattle.emp_num.specs.Numeral.{NumeralGives}
+use Rattle.emp_numeral.specs.Numeral.{NumeralGives}
 use Rattle.emp_num.specs.Opposite.{opposite}
 use Rattle.emp_list.specs.Case.{lower}
 use Rattle.emp_ast.specs.declared.tree.VarId.{VarId}

@@ -5,10 +5,10 @@ use Rattle.std.proofs.lemmas.Bool.{eqb-true, eq-eqb, ne_eqb, or_cases}
 use Rattle.std.proofs.lemmas.Bool.Decides.{nat_tests}
 use Rattle.std.proofs.lemmas.List.Elements.{All-nil, All-cons, All-head}
 use Rattle.std.proofs.lemmas.List.{length-append}
-use Rattle.emp_num.specs.Numeral.{digit, whole_of, numeral_form}
-use Rattle.emp_num.specs.NumeralText.{PointText, no_point, point, SignText, no_sign, plus, minus, ExponentText, no_exponent, exponent}
-use Rattle.emp_num.specs.NumeralText.{AllDigits as EachDigit}
-use Rattle.emp_num.proofs.NumeralTexts.{is_text}
+use Rattle.emp_numeral.specs.Numeral.{digit, whole_of, numeral_form}
+use Rattle.emp_numeral.specs.NumeralText.{PointText, no_point, point, SignText, no_sign, plus, minus, ExponentText, no_exponent, exponent}
+use Rattle.emp_numeral.specs.NumeralText.{AllDigits as EachDigit}
+use Rattle.emp_numeral.proofs.NumeralTexts.{is_text}
 use Rattle.emp_lex.specs.declared.token.TokenKind.{TokenKind}
 use Rattle.emp_lex.specs.declared.token.TokenKind.TheVariants.{Name, Numeral, Text, Relation, Symbol}
 use Rattle.emp_lex.specs.declared.piece.Step.TheVariants.{Skip, Take, Stop}

@@ -2,7 +2,7 @@
 use Rattle.std.specs.Prelude.{◌≡◌, ℕ, ◌*◌, ◌^◌, ◌≤◌, ◌++◌, unsigned_abs, true, List, [], ◌∷◌, length, All, codes}
 use Prim.Native.Nat.{◌∣◌}
 use Rattle.emp_num.specs.declared.frac.Frac.{Frac}
-use Rattle.emp_num.specs.Numeral.{digit, value_from, trimmed}
+use Rattle.emp_numeral.specs.Numeral.{digit, value_from, trimmed}
 
 -- a list goes on with a part of which P holds
 pub record Adds (P : List ℕ → Type 0) (old new : List ℕ) : Type 0 where

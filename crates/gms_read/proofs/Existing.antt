@@ -3,8 +3,8 @@ use Rattle.std.proofs.Common.{◌≡◌, ◌⊎◌, inl, inr, ℕ, List, [], ◌
 use Rattle.std.specs.Prelude.{All, slice_range}
 use Rattle.std.proofs.lemmas.List.Elements.{All-head, All-tail}
 use Rattle.emp_num.specs.declared.frac.Frac.{Frac}
-use Rattle.emp_num.specs.declared.numeral.NumeralFault.TheVariants.{Wide}
-use Rattle.emp_num.specs.Numeral.{NumeralGives}
+use Rattle.emp_numeral.specs.declared.numeral.NumeralFault.TheVariants.{Wide}
+use Rattle.emp_numeral.specs.Numeral.{NumeralGives}
 use Rattle.emp_ast.specs.declared.tree.Place.{Place}
 use Rattle.emp_ast.specs.declared.model.Model.{Model}
 use Rattle.emp_lex.specs.declared.token.Token.{Token}

@@ -4,7 +4,7 @@ use Rattle.std.proofs.lemmas.Int.{ints}
 use Rattle.std.specs.Prelude.{Ok, slice_range}
 use Rattle.std.proofs.Math.Nat.{one-le-pow}
 use Rattle.emp_num.specs.declared.frac.Frac.{Frac}
-use Rattle.emp_num.specs.Numeral.{top_of, bottom_of, FormGives, NumeralGives}
+use Rattle.emp_numeral.specs.Numeral.{top_of, bottom_of, FormGives, NumeralGives}
 use Rattle.emp_num.proofs.FracOrder.{one_value}
 use Rattle.emp_lex.specs.declared.token.Token.{Token}
 use Rattle.emp_lex.specs.declared.token.TokenKind.{TokenKind}

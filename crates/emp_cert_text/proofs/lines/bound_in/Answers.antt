@@ -2,7 +2,7 @@ use Rattle.std.proofs.Common.{◌≡◌, nat_eq, true, rules, arith}
 use mir.Syntax.{w128}
 use mir.Val.{SFits}
 use Rattle.std.proofs.lemmas.Int.{to_z-of_z}
-use Rattle.emp_num.specs.Numeral.{first}
+use Rattle.emp_numeral.specs.Numeral.{first}
 use Rattle.emp_cert_text.proofs.Nodes.{bound_no_word, bound_ok, bound_range, bound_fault}
 use Rattle.emp_cert_text.proofs.lines.bound_in.Goals as goal
 

@@ -1,5 +1,5 @@
 use Rattle.std.proofs.Common.{◌≡◌, nat_eq, true, false, arith}
-use Rattle.emp_num.specs.Numeral.{first}
+use Rattle.emp_numeral.specs.Numeral.{first}
 use Rattle.emp_cert_text.proofs.Spaced.{fractions_on, fractions_no_space, fractions_fault, fractions_beyond}
 use Rattle.emp_cert_text.proofs.lines.fractions_in.Goals as goal
 

@@ -1,4 +1,4 @@
-use Rattle.emp_num.specs.FracText.{fraction_text}
+use Rattle.emp_numeral.specs.FracText.{fraction_text}
 use Rattle.emp_cert_text.specs.Words.{IsFraction}
 use Rattle.emp_cert_text.proofs.Spaced.{AnyFrac, Reading}
 use Rattle.emp_cert_text.proofs.lines.fractions_in.Given as goal

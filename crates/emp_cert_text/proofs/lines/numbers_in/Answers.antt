@@ -1,5 +1,5 @@
 use Rattle.std.proofs.Common.{◌≡◌, nat_eq, true, false, arith}
-use Rattle.emp_num.specs.Numeral.{first}
+use Rattle.emp_numeral.specs.Numeral.{first}
 use Rattle.emp_cert_text.proofs.Spaced.{numbers_on, numbers_no_space, numbers_fault, numbers_beyond}
 use Rattle.emp_cert_text.proofs.lines.numbers_in.Goals as goal
 

@@ -1,5 +1,5 @@
 use Rattle.std.proofs.Common.{◌≡◌, nat_eq, true, false, arith}
-use Rattle.emp_num.specs.Numeral.{first}
+use Rattle.emp_numeral.specs.Numeral.{first}
 use Rattle.emp_cert_text.specs.Lines.{last_of}
 use Rattle.emp_cert_text.proofs.Factors.{factors_on, factors_no_word, factors_stop, factors_beyond, rest_shorter, factor_at}
 use Rattle.emp_cert_text.proofs.lines.sparse_in.Goals as goal

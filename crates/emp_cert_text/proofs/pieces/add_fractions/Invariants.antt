@@ -1,5 +1,5 @@
 use Rattle.std.proofs.Common.{◌≡◌, ◌++◌, map, drop}
-use Rattle.emp_num.specs.FracText.{fraction_text}
+use Rattle.emp_numeral.specs.FracText.{fraction_text}
 use Rattle.emp_cert_text.specs.Text.{spaced}
 use Rattle.emp_cert_text.proofs.pieces.add_fractions.Given as goal
 

@@ -1,5 +1,5 @@
 use Rattle.std.proofs.Common.{◌≡◌, ◌<◌, ◌^◌, drop}
-use Rattle.emp_num.specs.Numeral.{value_from}
+use Rattle.emp_numeral.specs.Numeral.{value_from}
 use Rattle.emp_cert_text.proofs.words.value_of.Given as goal
 
 abbrev pub invariant-loop-at : goal.invariant-loop-at

@@ -1,5 +1,5 @@
 use Rattle.std.proofs.Common.{refl, subst}
-use Rattle.emp_num.specs.Numeral.{NumeralGives}
+use Rattle.emp_numeral.specs.Numeral.{NumeralGives}
 use Rattle.gms_grammar.proofs.lexemes.numeral_sort.Goals as goal
 
 pub returns : goal.returns

@@ -1,0 +1,5 @@
+pub mod Printing
+pub mod Numerals
+pub mod Digits
+pub mod Shifts
+pub mod NumeralTexts
