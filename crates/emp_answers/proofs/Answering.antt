@@ -17,7 +17,7 @@ use Rattle.emp_problem.specs.Class.{AnnotFits, GoalFits}
 use Rattle.emp_command.specs.declared.words.Verb.TheVariants.{Solve, Check, Print, Migrate}
 use Rattle.emp_command.specs.Words.{Asked}
 use Rattle.emp_command.specs.Course.{Outcome, refusal}
-use Rattle.emp_lines.specs.TextLines.{not_yet_line, model_line, info_line}
+use Rattle.emp_report.specs.TextLines.{not_yet_line, model_line, info_line}
 use Rattle.emp_answers.specs.declared.said.Answer.{Answer}
 use Rattle.emp_answers.specs.Answers.{is_built, Solves, Checks, Migrates, Does, prints, solves, checks, migrates, Answers, unbuilt, bad_model, bad_info, done}
 use Rattle.emp_answers.specs.Outcomes.{outcome_of, Prints, OverInfo, refuses, reads}

@@ -18,7 +18,7 @@ use Rattle.emp_check.specs.declared.outcome.Why.{Why}
 use Rattle.emp_check.specs.declared.outcome.Checked.TheVariants.{Rejected, Wide as WideSum}
 use Rattle.emp_cert_text.specs.Writing.{longest}
 use Rattle.emp_cert_text.specs.Upgrading.{IsUpgrade}
-use Rattle.emp_cert_lines.specs.CertLines.{cert_line, long_line, rejected_line, sum_line, accepted_line, migrated_line}
+use Rattle.emp_report.specs.CertLines.{cert_line, long_line, rejected_line, sum_line, accepted_line, migrated_line}
 use Rattle.emp_solution.specs.declared.state.Stated.{Stated}
 use Rattle.emp_solution.specs.Stated.{IsStated}
 use Rattle.emp_answers.specs.declared.said.Answer.{Answer}

@@ -9,7 +9,7 @@ use Rattle.emp_owner.specs.declared.owned.OwnFault.TheVariants as OwnWords
 use Rattle.emp_owner.specs.Settled.{IsKept, IsFirstBroken}
 use Rattle.emp_solution.specs.declared.state.StateFault.{StateFault}
 use Rattle.emp_solution.specs.Stated.{StateGives}
-use Rattle.emp_lines.specs.TextLines.{own_line}
+use Rattle.emp_report.specs.TextLines.{own_line}
 use Rattle.emp_answers.specs.declared.said.Answer.{Answer}
 use Rattle.emp_answers.specs.Answers.{state_status, state_line, IsNamedFault, Refuses, bad_owner, unstated}
 use Rattle.emp_answers.specs.Outcomes.{outcome_of}

@@ -45,9 +45,9 @@ use Rattle.emp_solution.specs.Stated.{IsStated, StateGives}
 use Rattle.emp_subst.specs.declared.fault.FillFault.{FillFault}
 use Rattle.emp_subst.specs.declared.fault.FillFault.TheVariants.{Wide as WideValue}
 use Rattle.emp_subst.specs.Fill.{FillGives, spread}
-use Rattle.emp_lines.specs.TextLines.{not_yet_line, model_line, info_line, own_line}
-use Rattle.emp_lines.specs.ClassLines.{poly_line, poly_status, quadratic_line, leader_line, convex_line, curvature_line, value_line, row_line, pivot_line, spent_line, rows_line}
-use Rattle.emp_cert_lines.specs.CertLines.{cert_line, long_line, rejected_line, sum_line, accepted_line, migrated_line}
+use Rattle.emp_report.specs.TextLines.{not_yet_line, model_line, info_line, own_line}
+use Rattle.emp_report.specs.ClassLines.{poly_line, poly_status, quadratic_line, leader_line, convex_line, curvature_line, value_line, row_line, pivot_line, spent_line, rows_line}
+use Rattle.emp_report.specs.CertLines.{cert_line, long_line, rejected_line, sum_line, accepted_line, migrated_line}
 use Rattle.emp_report.specs.Report.{equilibrium_report, best_report, unbounded_report, missing_report}
 
 -- nothing is stored and a text is said

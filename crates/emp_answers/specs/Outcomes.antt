@@ -10,7 +10,7 @@ use Rattle.emp_ast.specs.declared.annot.Annot.{Annot}
 use Rattle.info_read.specs.declared.fault.InfoFault.{InfoFault}
 use Rattle.info_read.specs.declared.fault.InfoFault.TheVariants as InfoWords
 use Rattle.info_read.specs.Texts.{IsInfoText, RefusesInfo}
-use Rattle.emp_cert_lines.specs.CertLines.{long_line, migrated_line}
+use Rattle.emp_report.specs.CertLines.{long_line, migrated_line}
 use Rattle.emp_cert_text.specs.Text.{cert_text}
 use Rattle.emp_cert_text.specs.Writing.{longest}
 use Rattle.emp_cert_text.specs.Upgrading.{IsUpgrade}
@@ -18,8 +18,8 @@ use Rattle.emp_check.specs.Checks.{SizesAre}
 use Rattle.emp_rows.specs.declared.system.RowSystem.{RowSystem}
 use Rattle.emp_answers.specs.declared.certificates.Tried.{Tried}
 use Rattle.emp_answers.specs.declared.certificates.Tried.TheVariants.{Accepted, Refused}
-use Rattle.emp_lines.specs.TextLines.{info_line}
-use Rattle.emp_lines.specs.ClassLines.{value_line}
+use Rattle.emp_report.specs.TextLines.{info_line}
+use Rattle.emp_report.specs.ClassLines.{value_line}
 use Rattle.gms_print.specs.Canonical.{IsCanonical}
 use Rattle.info_print.specs.Canonical.{info_text}
 use Rattle.emp_owner.specs.Settled.{IsKept, IsFirstBroken, AreOwned}

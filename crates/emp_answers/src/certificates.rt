@@ -2,7 +2,7 @@
 ghost use Rattle.std.specs.Prelude.{◌≡◌, ◌≢◌, ◌<◌, ◌≤◌, List, ℕ, length, map, IfOk};
 ghost use Rattle.emp_command.specs.Course.{refusal};
 ghost use Rattle.emp_cert_text.specs.declared.read.CertFault.TheVariants as cert_words;
-ghost use Rattle.emp_cert_lines.specs.CertLines.{cert_line};
+ghost use Rattle.emp_report.specs.CertLines.{cert_line};
 ghost use Rattle.emp_command.specs.Requests.{asked_of};
 ghost use Rattle.emp_problem.specs.Class.{AnnotFits, GoalFits};
 ghost use Rattle.emp_cert_text.specs.Text.{cert_text};
@@ -17,7 +17,6 @@ use crate::stated::{Ready, prepare, refusal_of};
 use emp_ast::annot::Annot;
 use emp_ast::model::Model;
 use emp_cert::cert::Cert;
-use emp_cert_lines::lines;
 use emp_cert_text::read::{CertFault, read};
 use emp_cert_text::upgrade::upgrade;
 use emp_cert_text::write::WriteFault;
@@ -26,6 +25,7 @@ use emp_check::outcome::Checked;
 use emp_command::delivery::Stored;
 use emp_command::line::Line;
 use emp_list::memory::NoMemory;
+use emp_report::certificates;
 use std::alloc::Global;
 
 /// An accepted certificate of a file, or what is answered where there is none.
@@ -43,9 +43,9 @@ fn test(model: &Model, annot: &Annot, ready: Ready, cert: Cert) -> Tried
     match tested(&ready.stated.system, &cert) {
         Checked::Accepted => Tried::Accepted(ready, cert),
         Checked::Rejected(node, why) => {
-            Tried::Refused(Answer::Refusal(23, lines::rejected_line(node, why)))
+            Tried::Refused(Answer::Refusal(23, certificates::rejected_line(node, why)))
         }
-        Checked::Wide(node) => Tried::Refused(Answer::Refusal(19, lines::sum_line(node))),
+        Checked::Wide(node) => Tried::Refused(Answer::Refusal(19, certificates::sum_line(node))),
     }
 }
 
@@ -53,7 +53,7 @@ fn test(model: &Model, annot: &Annot, ready: Ready, cert: Cert) -> Tried
 fn text_refusal(fault: CertFault) -> Result<Answer, NoMemory>
     ensures { IfOk result (λ a. (fault ≢ cert_words.NoMemory) × (outcome_of a ≡ refusal 22 (cert_line fault))) }
 {
-    refused(22, lines::cert_line(fault))
+    refused(22, certificates::cert_line(fault))
 }
 
 /// The certificate of this text, where it is one of the file's rows and is accepted.
@@ -124,7 +124,7 @@ pub fn check(alloc: Global, model: &Model, annot: &Annot, text: &[u8]) -> Result
         Tried::Accepted(_, cert) => said(
             alloc,
             Vec::new(alloc),
-            &lines::accepted_line(&cert.verdict),
+            &certificates::accepted_line(&cert.verdict),
         ),
         Tried::Refused(answer) => Ok(answer),
     }
@@ -137,8 +137,8 @@ fn stored_anew(alloc: Global, ready: &Ready, cert: Cert, name: &str) -> Result<A
 {
     let cert = upgrade(alloc, cert, ready.stated.system.pairs.as_slice())?;
     match stored(alloc, name, &cert) {
-        Ok(files) => said(alloc, files, &lines::migrated_line(&cert.verdict)),
-        Err(WriteFault::TooLong) => Ok(Answer::Refusal(24, lines::long_line())),
+        Ok(files) => said(alloc, files, &certificates::migrated_line(&cert.verdict)),
+        Err(WriteFault::TooLong) => Ok(Answer::Refusal(24, certificates::long_line())),
         Err(WriteFault::NoMemory) => Err(NoMemory),
     }
 }

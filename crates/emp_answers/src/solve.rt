@@ -15,12 +15,11 @@ use crate::stated::{Ready, prepare, refusal_of};
 use emp_ast::annot::Annot;
 use emp_ast::model::Model;
 use emp_cert::cert::{Cert, Found};
-use emp_cert_lines::lines;
 use emp_cert_text::write::{WriteFault, write};
 use emp_command::delivery::Stored;
 use emp_command::words::Request;
-use emp_lines::classes;
 use emp_list::memory::NoMemory;
+use emp_report::{certificates, classes};
 use emp_rows::system::RowSystem;
 use emp_subst::fault::FillFault;
 use emp_walk::fault::WalkFault;
@@ -87,7 +86,7 @@ fn deliver(
 {
     match stores(alloc, request, &found.cert) {
         Ok(files) => Ok(Answer::Said(report.status, files, report.text)),
-        Err(WriteFault::TooLong) => Ok(Answer::Refusal(24, lines::long_line())),
+        Err(WriteFault::TooLong) => Ok(Answer::Refusal(24, certificates::long_line())),
         Err(WriteFault::NoMemory) => Err(NoMemory),
     }
 }

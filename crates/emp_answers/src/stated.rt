@@ -5,17 +5,17 @@ ghost use Rattle.emp_owner.specs.declared.owned.OwnFault.TheVariants as own_word
 ghost use Rattle.emp_owner.specs.Settled.{IsKept, IsFirstBroken};
 ghost use Rattle.emp_problem.specs.Class.{AnnotFits, GoalFits};
 ghost use Rattle.emp_solution.specs.Stated.{StateGives};
-ghost use Rattle.emp_lines.specs.TextLines.{own_line};
+ghost use Rattle.emp_report.specs.TextLines.{own_line};
 ghost use Rattle.emp_answers.specs.Answers.{state_status, state_line, IsNamedFault, Refuses};
 ghost use Rattle.emp_answers.specs.Outcomes.{outcome_of, ReadyGives};
 
 use crate::said::{Answer, refused};
 use emp_ast::annot::Annot;
 use emp_ast::model::Model;
-use emp_lines::{classes, texts};
 use emp_list::memory::NoMemory;
 use emp_owner::owned::{OwnFault, Owned};
 use emp_owner::settle::settle;
+use emp_report::{classes, texts};
 use emp_solution::state::{StateFault, Stated, state};
 use std::alloc::Global;
 

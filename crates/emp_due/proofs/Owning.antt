@@ -24,7 +24,7 @@ use Rattle.emp_check.specs.declared.outcome.Checked.TheVariants.{Accepted, Rejec
 use Rattle.emp_check.specs.Checks.{links_fit, verdict_checked, checked, LinksAre}
 use Rattle.emp_check.specs.Laws.{Ends}
 use Rattle.emp_check.proofs.Verdicts.{shown_ends}
-use Rattle.emp_cert_lines.specs.CertLines.{sum_line, accepted_line}
+use Rattle.emp_report.specs.CertLines.{sum_line, accepted_line}
 use Rattle.emp_walk.specs.Founds.{CertGives}
 use Rattle.emp_solution.specs.declared.state.Stated.{Stated}
 use Rattle.emp_solution.specs.Stated.{IsStated}

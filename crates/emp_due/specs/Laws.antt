@@ -5,7 +5,7 @@ use Rattle.emp_ast.specs.declared.model.Model.{Model}
 use Rattle.emp_ast.specs.declared.annot.Annot.{Annot}
 use Rattle.emp_cert.specs.declared.cert.Found.{Found}
 use Rattle.emp_cert_text.specs.Text.{cert_text}
-use Rattle.emp_cert_lines.specs.CertLines.{sum_line, accepted_line}
+use Rattle.emp_report.specs.CertLines.{sum_line, accepted_line}
 use Rattle.emp_walk.specs.Founds.{CertGives}
 use Rattle.emp_solution.specs.declared.state.Stated.{Stated}
 use Rattle.emp_solution.specs.Stated.{IsStated}

@@ -18,12 +18,12 @@ use Rattle.emp_owner.specs.declared.owned.OwnFault.{OwnFault}
 use Rattle.emp_owner.specs.declared.owned.OwnFault.TheVariants as OwnWords
 use Rattle.emp_owner.specs.Settled.{IsFirstBroken}
 use Rattle.emp_poly.specs.declared.tree.PolyFault.TheVariants as PolyWords
-use Rattle.emp_lines.specs.TextLines.{model_line, info_line, own_line}
-use Rattle.emp_lines.specs.ClassLines.{convex_line}
+use Rattle.emp_report.specs.TextLines.{model_line, info_line, own_line}
+use Rattle.emp_report.specs.ClassLines.{convex_line}
 use Rattle.emp_cert.specs.declared.cert.Cert.{Cert}
 use Rattle.emp_cert_text.specs.Text.{cert_text}
 use Rattle.emp_cert_text.specs.Upgrading.{IsUpgrade}
-use Rattle.emp_cert_lines.specs.CertLines.{accepted_line, migrated_line}
+use Rattle.emp_report.specs.CertLines.{accepted_line, migrated_line}
 use Rattle.emp_check.specs.Checks.{checked}
 use Rattle.emp_check.specs.declared.outcome.Checked.TheVariants.{Accepted, Rejected}
 use Rattle.emp_check.specs.declared.outcome.Why.{Why}

@@ -15,7 +15,7 @@ use Rattle.gms_read.specs.Texts.{IsModelText}
 use Rattle.info_read.specs.Texts.{IsInfoText}
 use Rattle.emp_poly.specs.declared.tree.PolyFault.{PolyFault}
 use Rattle.emp_poly.specs.declared.tree.PolyFault.TheVariants as PolyWords
-use Rattle.emp_lines.specs.ClassLines.{poly_status}
+use Rattle.emp_report.specs.ClassLines.{poly_status}
 use Rattle.emp_cert.specs.declared.cert.Found.{Found}
 use Rattle.emp_cert.specs.declared.cert.Verdict.{Verdict}
 use Rattle.emp_cert.specs.declared.cert.Verdict.TheVariants.{Point as PointVerdict, Missing, Best, Unbounded}

@@ -5,7 +5,7 @@ use Rattle.emp_command.specs.declared.words.Verb.TheVariants.{Solve, Check, Prin
 use Rattle.emp_command.specs.Words.{Asked, Asks, solve, check, print, make, migrate, pieces}
 use Rattle.emp_command.specs.Course.{Outcome, refusal}
 use Rattle.emp_cert_text.specs.Text.{cert_text}
-use Rattle.emp_cert_lines.specs.CertLines.{accepted_line, sum_line}
+use Rattle.emp_report.specs.CertLines.{accepted_line, sum_line}
 use Rattle.emp_answers.specs.Answers.{saying, Checks, Does, prints, solves, checks, migrates, is_built_for, is_built}
 use Rattle.emp_due.proofs.Owning.{own_passes}
 use Rattle.emp_engine.specs.Run.{IsCheck, HoldsOwn, Passes, NamesTexts, IsAnswered}

@@ -11,7 +11,7 @@ use Rattle.emp_command.specs.Words.{Asked}
 use Rattle.emp_command.specs.Course.{Outcome, IsInRange}
 use Rattle.emp_poly.specs.declared.tree.PolyFault.{PolyFault}
 use Rattle.emp_poly.specs.declared.tree.PolyFault.TheVariants as PolyWords
-use Rattle.emp_lines.specs.ClassLines.{poly_status}
+use Rattle.emp_report.specs.ClassLines.{poly_status}
 use Rattle.emp_cert.specs.declared.cert.Cert.{Cert}
 use Rattle.emp_cert.specs.declared.cert.Found.{Found}
 use Rattle.emp_cert.specs.declared.cert.Verdict.{Verdict}

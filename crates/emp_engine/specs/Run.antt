@@ -38,11 +38,11 @@ use Rattle.emp_solution.specs.declared.state.Stated.{Stated}
 use Rattle.emp_solution.specs.Stated.{IsStated}
 use Rattle.emp_solution.specs.Tells.{VerdictTells}
 use Rattle.emp_accepted.specs.Accepted.{IsAcceptedPair}
-use Rattle.emp_lines.specs.TextLines.{model_line, info_line, own_line}
-use Rattle.emp_lines.specs.ClassLines.{convex_line}
+use Rattle.emp_report.specs.TextLines.{model_line, info_line, own_line}
+use Rattle.emp_report.specs.ClassLines.{convex_line}
 use Rattle.emp_make.specs.Markets.{IsMarket}
 use Rattle.emp_makes.specs.Makes.{OutputGives, ProfitGives, summary, Makes}
-use Rattle.emp_cert_lines.specs.CertLines.{sum_line, accepted_line, migrated_line}
+use Rattle.emp_report.specs.CertLines.{sum_line, accepted_line, migrated_line}
 use Rattle.emp_report.specs.Report.{equilibrium_report, best_report, unbounded_report}
 use Rattle.emp_answers.specs.Answers.{is_built, Refuses, Solves, Does, Answers}
 

@@ -15,7 +15,7 @@ use Rattle.emp_cert.specs.declared.cert.Found.{Found}
 use Rattle.emp_cert.specs.declared.cert.Verdict.{Verdict}
 use Rattle.emp_cert.specs.declared.cert.Verdict.TheVariants.{Point, Missing, Best, Unbounded}
 use Rattle.emp_cert.specs.Certs.{VerdictFits}
-use Rattle.emp_cert_lines.specs.CertLines.{long_line}
+use Rattle.emp_report.specs.CertLines.{long_line}
 use Rattle.emp_subst.specs.declared.fault.FillFault.{FillFault}
 use Rattle.emp_subst.specs.declared.fault.FillFault.TheVariants as FillWords
 use Rattle.emp_subst.specs.Fill.{spread}
@@ -28,8 +28,8 @@ use Rattle.emp_solution.specs.declared.state.Stated.{Stated}
 use Rattle.emp_solution.specs.Stated.{IsStated}
 use Rattle.emp_solution.proofs.Fit.{base_reaches}
 use Rattle.emp_report.specs.Report.{equilibrium_report, best_report, unbounded_report}
-use Rattle.emp_lines.specs.ClassLines.{value_line}
-use Rattle.emp_lines.specs.TextLines.{own_line}
+use Rattle.emp_report.specs.ClassLines.{value_line}
+use Rattle.emp_report.specs.TextLines.{own_line}
 use Rattle.emp_unique.proofs.States.{one_state, stated_has_no_fault}
 use Rattle.emp_answers.specs.Answers.{IsNamedFault, Refuses, bad_owner, unstated, state_status, state_line, walk_status, walk_line, Fills, verdict_point, IsUnfilled, IsPointReport, ReportOf, IsReport, cert_stores, CertFits, CertIsLong, Solves, refused, unfinished, unfilled, too_long, answered}
 use Rattle.emp_exact.specs.Laws.{OneAnswer}

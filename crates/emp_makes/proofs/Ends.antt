@@ -11,7 +11,7 @@ use Rattle.emp_walk.specs.declared.fault.WalkFault.{WalkFault}
 use Rattle.emp_walk.specs.declared.fault.WalkFault.TheVariants as WalkWords
 use Rattle.emp_solution.specs.declared.state.StateFault.{StateFault}
 use Rattle.emp_solution.specs.declared.state.StateFault.TheVariants as StateWords
-use Rattle.emp_lines.specs.ClassLines.{poly_status}
+use Rattle.emp_report.specs.ClassLines.{poly_status}
 use Rattle.emp_accepted.specs.Accepted.{IsAcceptedPair}
 use Rattle.emp_accepted.specs.Laws.{IsWideFault}
 use Rattle.emp_accepted.proofs.Faults.{accepted_are_stated, accepted_break_none}

@@ -16,7 +16,7 @@ use Rattle.emp_solution.specs.declared.state.Stated.{Stated}
 use Rattle.emp_solution.specs.Stated.{IsStated}
 use Rattle.emp_subst.specs.declared.fault.FillFault.{FillFault}
 use Rattle.emp_subst.specs.declared.fault.FillFault.TheVariants as FillWords
-use Rattle.emp_lines.specs.ClassLines.{value_line}
+use Rattle.emp_report.specs.ClassLines.{value_line}
 use Rattle.emp_answers.specs.declared.said.Answer.{Answer}
 use Rattle.emp_answers.specs.Answers.{walk_status, walk_line, verdict_point, Fills, Refuses}
 use Rattle.emp_answers.specs.Outcomes.{outcome_of, ValueRefused}

@@ -22,11 +22,11 @@ use emp_ast::annot::Annot;
 use emp_ast::model::Model;
 use emp_cert::cert::{Found, Verdict};
 use emp_command::words::{DEFAULT_WORK, Request};
-use emp_lines::classes;
 use emp_list::memory::NoMemory;
 use emp_make::fault::MakeFault;
 use emp_make::market::make;
 use emp_num::frac::Frac;
+use emp_report::classes;
 use std::alloc::Global;
 
 /// The summary, with the files where the words name them.

@@ -4,7 +4,6 @@ use Rattle.std.proofs.lemmas.List.{append-nil, length-map}
 use Rattle.std.specs.Fmt.{signed_decimal}
 use Rattle.emp_num.specs.declared.frac.Frac.{Frac}
 use Rattle.emp_ast.specs.declared.model.Variable.{Variable}
-use Rattle.emp_numeral.specs.FracText.{fraction_text}
 use Rattle.emp_report.specs.Report.{each_line, value_line, point_lines, step_line, step_lines, factors_text}
 
 -- ---- factors

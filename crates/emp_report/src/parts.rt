@@ -1,7 +1,7 @@
 //! Lines by place and by name.
 ghost use Rattle.std.specs.Prelude.{◌≡◌, ◌≤◌, ◌+◌, ◌++◌, codes, decimal, length, take};
-ghost use Rattle.emp_lines.specs.TextLines.{variable_name, equation_name, place_text, placed_line, named_line};
-ghost use Rattle.emp_lines.specs.ClassLines.{tree_line};
+ghost use Rattle.emp_report.specs.TextLines.{variable_name, equation_name, place_text, placed_line, named_line};
+ghost use Rattle.emp_report.specs.ClassLines.{tree_line};
 
 use emp_ast::model::Model;
 use emp_ast::tree::{EquId, Place, VarId};

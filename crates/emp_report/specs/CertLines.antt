@@ -7,8 +7,6 @@ use Rattle.emp_cert_text.specs.declared.read.CertFault.{CertFault}
 use Rattle.emp_cert_text.specs.declared.read.CertFault.TheVariants as CertWords
 use Rattle.emp_check.specs.declared.outcome.Why.{Why}
 use Rattle.emp_check.specs.declared.outcome.Why.TheVariants as WhyWords
-use Rattle.emp_check.specs.declared.outcome.Checked.{Checked}
-use Rattle.emp_check.specs.declared.outcome.Checked.TheVariants as CheckedWords
 
 -- ---- texts of certificates
 abbrev pub cert_line : CertFault → List ℕ

@@ -7,7 +7,7 @@ use Rattle.emp_ast.specs.declared.model.Model.{Model}
 use Rattle.emp_command.specs.Lines.{no_memory_line}
 use Rattle.emp_poly.specs.declared.tree.PolyFault.{PolyFault}
 use Rattle.emp_poly.specs.declared.tree.PolyFault.TheVariants as PolyWords
-use Rattle.emp_lines.specs.TextLines.{variable_name, equation_name, place_text}
+use Rattle.emp_report.specs.TextLines.{variable_name, equation_name, place_text}
 
 abbrev pub tree_line : List ℕ → Place → List ℕ
 tree_line start p = start ++ place_text p ++ codes "\n"

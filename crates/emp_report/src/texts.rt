@@ -1,6 +1,6 @@
 //! The lines of texts that stand for nothing, and of broken rules of ownership.
 ghost use Rattle.std.specs.Prelude.{◌≡◌, ◌≢◌, ◌≤◌, codes, length, MatchOption};
-ghost use Rattle.emp_lines.specs.TextLines.{lex_line, model_line, info_line, own_line, not_yet_line, own_start, named_line};
+ghost use Rattle.emp_report.specs.TextLines.{lex_line, model_line, info_line, own_line, not_yet_line, own_start, named_line};
 ghost use Rattle.gms_grammar.specs.declared.fault.ModelFault.TheVariants as model_words;
 ghost use Rattle.info_read.specs.declared.fault.InfoFault.TheVariants as info_words;
 ghost use Rattle.emp_owner.specs.declared.owned.OwnFault.TheVariants as own_words;

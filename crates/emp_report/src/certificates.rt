@@ -1,10 +1,13 @@
-//! The lines of certificates.
-ghost use Rattle.std.specs.Prelude.{◌≡◌, ◌≤◌, ◌++◌, codes, length};
-ghost use Rattle.emp_cert_lines.specs.CertLines.{long_line, why_word, rejected_line, sum_line, verdict_word, accepted_line, migrated_line};
+//! The lines of certificates: texts that are refused, certificates that are, and those that are accepted.
+ghost use Rattle.std.specs.Prelude.{◌≡◌, ◌≢◌, ◌≤◌, ◌++◌, codes, decimal, length, MatchOption};
+ghost use Rattle.emp_cert_text.specs.declared.read.CertFault.TheVariants as cert_words;
+ghost use Rattle.emp_report.specs.CertLines.{cert_line, long_line, why_word, rejected_line, sum_line, verdict_word, accepted_line, migrated_line};
 
 use emp_cert::cert::Verdict;
+use emp_cert_text::read::CertFault;
 use emp_check::outcome::Why;
 use emp_command::line::{Line, add, numbered, plain};
+use emp_command::refusal::Refusal;
 
 /// The line of a certificate's text at one of its lines, which counts from 1, with a word behind it.
 fn at_line(line: u64, word: &[u8]) -> Line
@@ -12,6 +15,19 @@ fn at_line(line: u64, word: &[u8]) -> Line
     ensures { result.items ≡ codes "error 22: certificate line " ++ decimal line ++ word.now }
 {
     numbered(b"error 22: certificate line ", line, word)
+}
+
+/// The line of a text that is no certificate's; none for a want of memory.
+pub fn cert_line(fault: CertFault) -> Option<Line>
+    ensures { MatchOption result (fault ≡ cert_words.NoMemory) (λ l. (fault ≢ cert_words.NoMemory) × (l.items ≡ cert_line fault)) }
+{
+    match fault {
+        CertFault::Version => Some(plain(b"error 22: certificate version\n")),
+        CertFault::Syntax(line) => Some(at_line(line, b" syntax\n")),
+        CertFault::Range(line) => Some(at_line(line, b" range\n")),
+        CertFault::TooLong => Some(Refusal::TooLong(3, 16_777_216).line()),
+        CertFault::NoMemory => None,
+    }
 }
 
 /// The line of a certificate to be written that is too long.
@@ -93,24 +109,4 @@ pub fn migrated_line(verdict: &Verdict) -> Line
     ensures { result.items ≡ migrated_line verdict.now }
 {
     with_verdict(b"migrated ", verdict)
-}
-
-ghost use Rattle.std.specs.Prelude.{◌≢◌, decimal, MatchOption};
-ghost use Rattle.emp_cert_text.specs.declared.read.CertFault.TheVariants as cert_words;
-ghost use Rattle.emp_cert_lines.specs.CertLines.{cert_line};
-
-use emp_cert_text::read::CertFault;
-use emp_command::refusal::Refusal;
-
-/// The line of a text that is no certificate's; none for a want of memory.
-pub fn cert_line(fault: CertFault) -> Option<Line>
-    ensures { MatchOption result (fault ≡ cert_words.NoMemory) (λ l. (fault ≢ cert_words.NoMemory) × (l.items ≡ cert_line fault)) }
-{
-    match fault {
-        CertFault::Version => Some(plain(b"error 22: certificate version\n")),
-        CertFault::Syntax(line) => Some(at_line(line, b" syntax\n")),
-        CertFault::Range(line) => Some(at_line(line, b" range\n")),
-        CertFault::TooLong => Some(Refusal::TooLong(3, 16_777_216).line()),
-        CertFault::NoMemory => None,
-    }
 }

@@ -1,7 +1,7 @@
 //! The lines of classes of files that are refused, of wide numbers and of the search.
 ghost use Rattle.std.specs.Prelude.{◌≡◌, ◌≢◌, ◌≤◌, ◌+◌, ◌++◌, codes, decimal, length, take, MatchOption};
-ghost use Rattle.emp_lines.specs.TextLines.{variable_name};
-ghost use Rattle.emp_lines.specs.ClassLines.{poly_line, quadratic_line, leader_line, convex_line, curvature_line, value_line, row_line, pivot_line, spent_line, rows_line};
+ghost use Rattle.emp_report.specs.TextLines.{variable_name};
+ghost use Rattle.emp_report.specs.ClassLines.{poly_line, poly_status, quadratic_line, leader_line, convex_line, curvature_line, value_line, row_line, pivot_line, spent_line, rows_line};
 ghost use Rattle.emp_poly.specs.declared.tree.PolyFault.TheVariants as poly_words;
 
 use crate::parts::{cut, equation_name, in_tree, variable_name};
@@ -22,6 +22,17 @@ pub fn poly_line(fault: PolyFault) -> Option<Line>
         PolyFault::DivideByZero(place) => Some(in_tree(b"error 17: divide by zero ", place)),
         PolyFault::Wide(place) => Some(in_tree(b"error 19: wide coefficient ", place)),
         PolyFault::NoMemory => None,
+    }
+}
+
+/// The status of a tree that has no polynomial.
+pub fn poly_status(fault: PolyFault) -> u8
+    ensures { result ≡ poly_status fault }
+{
+    match fault {
+        PolyFault::Degree(_) | PolyFault::DivideByVariable(_) | PolyFault::DivideByZero(_) => 17,
+        PolyFault::Wide(_) => 19,
+        PolyFault::NoMemory => 21,
     }
 }
 
@@ -127,17 +138,4 @@ pub fn rows_line() -> Line
     ensures { result.items ≡ rows_line }
 {
     plain(b"error 24: rows too large\n")
-}
-
-ghost use Rattle.emp_lines.specs.ClassLines.{poly_status};
-
-/// The status of a tree that has no polynomial.
-pub fn poly_status(fault: PolyFault) -> u8
-    ensures { result ≡ poly_status fault }
-{
-    match fault {
-        PolyFault::Degree(_) | PolyFault::DivideByVariable(_) | PolyFault::DivideByZero(_) => 17,
-        PolyFault::Wide(_) => 19,
-        PolyFault::NoMemory => 21,
-    }
 }
