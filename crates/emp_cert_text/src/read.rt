@@ -24,19 +24,26 @@ use emp_list::seq::Seq;
 use emp_num::frac::Frac;
 use emp_rows::point::RowPoint;
 use std::alloc::{AllocError, Global};
+use thiserror::Error;
 
 /// Why a text is no certificate's. Lines count from 1.
-#[derive(Clone, Copy, Debug, PartialEq, Eq)]
+#[derive(Clone, Copy, Debug, PartialEq, Eq, Error)]
 pub enum CertFault {
     /// The text has more than 16,777,216 bytes.
+    #[error("too long")]
     TooLong,
     /// The first line is that of no version.
+    #[error("no such version")]
     Version,
     /// The line has the right words, counts and order, and a number is outside its range.
+    #[error("line {0}: range")]
     Range(u64),
     /// Another fault of the first line that no certificate has at that place. A line that is missing and a rest after the
     /// last line are such faults too.
+    #[error("line {0}: syntax")]
     Syntax(u64),
+    /// There was no memory.
+    #[error("no memory")]
     NoMemory,
 }
 

@@ -5,8 +5,9 @@ ghost use Rattle.emp_num.specs.Exact.{IsNarrow, IsWide};
 ghost use Rattle.emp_numeral.specs.Numeral.{digit, first};
 ghost use Rattle.emp_cert_text.specs.Words.{are_digits, value, is_count, is_whole, whole, CountGives, NumberGives, LowestGives, FractionGives, lacks, first_word, after_word};
 
-use emp_num::exact::{LIMIT, gcd};
+use emp_num::exact::gcd;
 use emp_num::frac::Frac;
+use emp_numeral::numeral::{behind, digits_value, head, is_digit};
 
 /// What a word is as a whole number.
 #[derive(Clone, Copy, Debug, PartialEq, Eq)]
@@ -29,12 +30,6 @@ pub enum Fraction {
 }
 
 // ---- digits
-fn is_digit(b: u8) -> bool
-    ensures { result ≡ digit b }
-{
-    47 < b && b < 58
-}
-
 /// Whether all bytes are digits.
 #[tactic(auto, using(crate::proofs::Numbers::digiting))]
 fn are_digits(word: &[u8]) -> bool
@@ -46,31 +41,6 @@ fn are_digits(word: &[u8]) -> bool
         }
     }
     true
-}
-
-/// The number with a digit more, and none where it is 2^126 or more.
-fn with_digit(number: u128, digit: u8) -> Option<u128>
-    ensures { MatchOption result (2 ^ 126 ≤ number * 10 + (digit - 48)) (λ v. (v ≡ number * 10 + (digit - 48)) × (v < 2 ^ 126)) }
-{
-    let tens = number.checked_mul(10)?;
-    let more = tens.checked_add(u128::from(digit.saturating_sub(48)))?;
-    if more < LIMIT.unsigned_abs() {
-        Some(more)
-    } else {
-        None
-    }
-}
-
-/// The number that digits write, and none where it is 2^126 or more.
-#[tactic(auto, using(emp_numeral::proofs::Numerals::valuing))]
-fn value_of(digits: &[u8]) -> Option<u128>
-    ensures { MatchOption result (2 ^ 126 ≤ value digits.now) (λ v. (v ≡ value digits.now) × (v < 2 ^ 126)) }
-{
-    let mut number = 0;
-    for at in 0..digits.len() {
-        number = with_digit(number, digits[at])?;
-    }
-    Some(number)
 }
 
 /// Whether the word is digits, with no zero before another digit.
@@ -89,7 +59,7 @@ fn count_in(word: &[u8]) -> Number
     if !is_count(word) {
         return Number::No;
     }
-    match value_of(word) {
+    match digits_value(0, word) {
         None => Number::Outside,
         Some(value) => Number::Is(value as i128),
     }
@@ -106,20 +76,6 @@ fn below_in(digits: &[u8]) -> Number
         Number::Is(0) => Number::No,
         Number::Is(size) => Number::Is(-size),
     }
-}
-
-/// The first byte, and 0 where there is none.
-fn head(text: &[u8]) -> u8
-    ensures { result ≡ first text.now }
-{
-    if text.is_empty() { 0 } else { text[0] }
-}
-
-/// What follows the first byte.
-fn behind(text: &[u8]) -> &[u8]
-    ensures { result.now ≡ drop 1 text.now }
-{
-    if text.is_empty() { text } else { &text[1..] }
 }
 
 /// What stands before a place.

@@ -28,9 +28,9 @@ fn with_digit(n: u128, b: u8) -> Option<u128>
     }
 }
 
-/// The number that digits write after another.
+/// The number that digits write behind those of a number, and none where it is 2^126 or more.
 #[tactic(auto, using(crate::proofs::Numerals::valuing))]
-fn digits_value(start: u128, digits: &[u8]) -> Option<u128>
+pub fn digits_value(start: u128, digits: &[u8]) -> Option<u128>
     requires { start < 2 ^ 126 }
     ensures { MatchOption result (2 ^ 126 ≤ value_from start digits.now) (λ v. (v ≡ value_from start digits.now) × (v < 2 ^ 126)) }
 {
@@ -94,7 +94,8 @@ fn times_power(m: u128, n: u128) -> Option<Frac>
 }
 
 // ---- parts of a text
-fn is_digit(b: u8) -> bool
+/// Whether the byte is a digit.
+pub fn is_digit(b: u8) -> bool
     ensures { result ≡ digit b }
 {
     47 < b && b < 58
@@ -131,13 +132,15 @@ fn trimmed_len(digits: &[u8]) -> usize
     0
 }
 
-fn head(text: &[u8]) -> u8
+/// The first byte, and 0 where there is none.
+pub fn head(text: &[u8]) -> u8
     ensures { result ≡ first text.now }
 {
     if text.is_empty() { 0 } else { text[0] }
 }
 
-fn behind(text: &[u8]) -> &[u8]
+/// What follows the first byte.
+pub fn behind(text: &[u8]) -> &[u8]
     ensures { result.now ≡ drop 1 text.now }
 {
     if text.is_empty() { text } else { &text[1..] }
