@@ -1,0 +1,4 @@
+pub mod Least
+pub mod Rows
+pub mod Systems
+pub mod Examples

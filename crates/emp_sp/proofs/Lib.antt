@@ -1,0 +1,4 @@
+pub mod Splits
+pub mod Meeting
+pub mod Scenes
+pub mod Small
