@@ -22,18 +22,16 @@ pub struct Dict {
     rows: Seq<Label>,
     columns: Seq<Label>,
     marks: Seq<Mark>,
-    room: u64,
     pub ghost sound: { IsSound (record { lines = table; rows = rows; columns = columns; marks = marks }) },
 }
 
 impl Dict {
-    ghost use Rattle.emp_dict.specs.Dicts.{dictionary_of, spare_of, PivotGives};
+    ghost use Rattle.emp_dict.specs.Dicts.{dictionary_of, PivotGives};
 
     /// The dictionary of a row system at the start: a row for each quantity, and a last one for the objective where there is one. The columns
     /// are the base variables, and nothing is asked of any quantity.
     pub fn start(alloc: Global, system: &RowSystem) -> Result<Dict, NoMemory>
-        ensures dictionary { IfOk result (λ d. dictionary_of d ≡ started system.now.base system.now.quantities system.now.objective) }
-        ensures spare { IfOk result (λ d. spare_of d ≡ 0) }
+        ensures { IfOk result (λ d. dictionary_of d ≡ started system.now.base system.now.quantities system.now.objective) }
     {
         let count = system.quantities.len();
         Ok(Dict {
@@ -41,21 +39,18 @@ impl Dict {
             rows: start_labels(alloc, count, &system.objective)?,
             columns: bases(alloc, system.base as usize)?,
             marks: unasked(alloc, count)?,
-            room: 0,
         })
     }
 
     /// An equal dictionary. It leaves this one alone.
     pub fn copy(&self, alloc: Global) -> Result<Dict, NoMemory>
-        ensures dictionary { IfOk result (λ copy. dictionary_of copy ≡ dictionary_of self.now) }
-        ensures spare { IfOk result (λ copy. spare_of copy ≡ spare_of self.now) }
+        ensures { IfOk result (λ copy. dictionary_of copy ≡ dictionary_of self.now) }
     {
         Ok(Dict {
             table: self.table.copy(alloc)?,
             rows: self.rows.copy(alloc)?,
             columns: self.columns.copy(alloc)?,
             marks: self.marks.copy(alloc)?,
-            room: self.room,
         })
     }
 
@@ -141,8 +136,7 @@ impl Dict {
     /// Changes the mark of one quantity, and nothing else.
     pub fn set_mark(&mut self, k: u32, mark: Mark)
         requires { (0 < k) × (k ≤ length (dictionary_of self.old).marks) }
-        ensures dictionary { dictionary_of self.new ≡ marked (dictionary_of self.old) k mark }
-        ensures spare { spare_of self.new ≡ spare_of self.old }
+        ensures { dictionary_of self.new ≡ marked (dictionary_of self.old) k mark }
     {
         self.marks.set((k - 1) as usize, mark);
     }
@@ -160,19 +154,6 @@ impl Dict {
         None
     }
 
-    /// Makes room for one more pivot on any row and column. Nothing else changes, and after a refusal nothing at all.
-    pub fn ready(&mut self) -> Result<(), NoMemory>
-        ensures dictionary { dictionary_of self.new ≡ dictionary_of self.old }
-        ensures spare { spare_of self.old ≤ spare_of self.new }
-        ensures ok { OnOk result (0 < spare_of self.new) }
-        ensures err { OnErr result (spare_of self.new ≡ spare_of self.old) }
-    {
-        if self.room == 0 {
-            self.room = 1;
-        }
-        Ok(())
-    }
-
     /// Exchanges a row with a column. It takes no memory.
     ///
     /// `Wide` comes exactly where a formed number has absolute value 2^126 or more. The dictionary is then unchanged.
@@ -181,14 +162,12 @@ impl Dict {
         requires column { column < length (dictionary_of self.old).columns }
         requires quantity { row_label (dictionary_of self.old) row ≢ Objective }
         requires nonzero { cell_at (dictionary_of self.old) row column ≢ pos 0 }
-        requires room { 0 < spare_of self.old }
         ensures { PivotGives row column self.old self.new result }
     {
         self.table.pivot(row, column)?;
         let mut label = self.rows.as_slice()[row];
         self.columns.swap_in(column, &mut label);
         self.rows.set(row, label);
-        self.room -= 1;
         Ok(())
     }
 }

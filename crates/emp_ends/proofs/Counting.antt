@@ -131,8 +131,8 @@ searched_counts s limit (suc most) u p as' d st few room c = by st.left refl (λ
     by (suc left) same counts = ends left same counts (worked s as' left d).end refl (work_of s p as' left d (c.asks left))
 
 -- ---- the whole search
-pub search_counts : (s : RowSystem) (limit : ℕ) → TakesAll s (length s.pairs) (first_state limit) (search_of s limit)
-search_counts s limit = searched_counts s limit limit (length s.pairs) [] (asks_from 1 s.kinds) (started_of s) (first_state limit) (omega arith) (let e = unsplit_root (length s.pairs) in omega arith) (record { asks = root_asked s; few = start_few s })
+pub search_counts : (s : RowSystem) (limit : ℕ) → TakesAll s (length s.pairs) (first_state limit 0) (search_of s limit)
+search_counts s limit = searched_counts s limit limit (length s.pairs) [] (asks_from 1 s.kinds) (started_of s) (first_state limit 0) (omega arith) (let e = unsplit_root (length s.pairs) in omega arith) (record { asks = root_asked s; few = start_few s })
 
 pub searches_open_few : SearchesOpenFew
 searches_open_few s limit = go (search_of s limit) (search_counts s limit)
@@ -140,7 +140,7 @@ searches_open_few s limit = go (search_of s limit) (search_counts s limit)
     fewer : 1 + lower 1 (length s.pairs) < nodes_below s
     fewer = let e = lower_is 1 (length s.pairs) in omega arith
 
-    go : (r : Searched) → TakesAll s (length s.pairs) (first_state limit) r → OpensBelow (nodes_below s) r
+    go : (r : Searched) → TakesAll s (length s.pairs) (first_state limit 0) r → OpensBelow (nodes_below s) r
     go (closed st) h = let n = h.nodes in let f = fewer in omega arith
     go (found x st) h = let f = fewer in omega arith
     go (wide_at k p) h = let f = fewer in omega arith
@@ -154,7 +154,7 @@ most_few s = by (length s.quantities) (step_units s) (pow_pos (s.base + length s
     by q u a e = let h : (q + 2) * u ≡ q * u + 2 * u = grind arith in omega arith
 
 pub searches_end : SearchesEnd
-searches_end s limit few e = over (subst (TakesAll s (length s.pairs) (first_state limit)) e (search_counts s limit))
+searches_end s limit few e = over (subst (TakesAll s (length s.pairs) (first_state limit 0)) e (search_counts s limit))
   where
     tree : most_units s + lower (most_units s) (length s.pairs) + most_units s ≡ nodes_below s * most_units s
     tree = lower_is (most_units s) (length s.pairs)

@@ -13,12 +13,13 @@ use Rattle.emp_dict.specs.declared.label.Label.TheVariants.{Quantity}
 use Rattle.emp_dict.specs.declared.label.Mark.TheVariants.{Fixed}
 use Rattle.emp_dict.specs.declared.label.Aim.TheVariants.{Least}
 use Rattle.emp_dict.specs.Dictionary.{Dictionary, column_label, mark_at, row_of, label_eq}
+use Rattle.emp_dict.specs.Places.{is_positive}
 use Rattle.emp_dict.proofs.Labels.{label_eq-false}
 use Rattle.emp_step.specs.declared.outcome.Outcome.{Outcome}
 use Rattle.emp_step.specs.declared.outcome.Outcome.TheVariants.{Held, Empty, Best, Ray}
 use Rattle.emp_step.specs.Steps.{ended, mark_of_label}
 use Rattle.emp_step.proofs.Labels.{row_found}
-use Rattle.emp_search.specs.Search.{is_above, above_by, above, both_above, still_by, still, is_broken, first_pair, point, ray, Decision, leaf, branch, finding, is_bounded, split_or, bound_of, decided}
+use Rattle.emp_search.specs.Search.{above_by, above, both_above, still_by, still, is_broken, first_pair, point, ray, Decision, leaf, branch, finding, is_bounded, split_or, bound_of, decided}
 use Rattle.emp_search.specs.Nodes.{IsNode, IsSettled}
 use Rattle.emp_search.proofs.Outcomes.{rays}
 use Rattle.emp_search.proofs.Working.{WorkedAs}
@@ -82,7 +83,7 @@ not_above s p d n k e f = both_ways (above d k) (go (row_of d (Quantity k)) refl
   where
     go : (o : Option ℕ) → row_of d (Quantity k) ≡ o → above_by d o ≡ false
     go None q = refl
-    go (Some i) q = let r = row_found d (Quantity k) i q in ap is_above (n.level.fixed i k r.below r.label f)
+    go (Some i) q = let r = row_found d (Quantity k) i q in ap is_positive (n.level.fixed i k r.below r.label f)
 
 stays_still : (s : RowSystem) (p : List Turn) (d : Dictionary) → IsNode s p d → (k j : ℕ) → j < length d.columns → mark_of_label d (column_label d j) ≢ Fixed → mark_at d k ≡ Fixed → still d j k ≡ true
 stays_still s p d n k j b free f = go (row_of d (Quantity k)) refl

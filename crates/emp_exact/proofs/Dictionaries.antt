@@ -103,4 +103,4 @@ searched_finds s limit (suc most) p as' d st c = by st.left (λ q bs e x h. sear
     by (suc left) finds = ends left finds (worked s as' left d).end (work_of s p as' left d (c left))
 
 pub found_in : (s : RowSystem) (limit : ℕ) (f : Finding) (st : State) → search_of s limit ≡ found f st → IsDictionaryOf s (finding_of f)
-found_in s limit f st e = subst (FoundIn s) e (searched_finds s limit limit [] (asks_from 1 s.kinds) (started_of s) (first_state limit) (root_asked s))
+found_in s limit f st e = subst (FoundIn s) e (searched_finds s limit limit [] (asks_from 1 s.kinds) (started_of s) (first_state limit 0) (root_asked s))

@@ -3,7 +3,7 @@ use Rattle.std.specs.Prelude.{◌≡◌, ◌≢◌, ℕ, suc, Some, None, Result
 use Rattle.emp_dict.specs.declared.label.Mark.TheVariants.{Unasked, Fixed}
 use Rattle.emp_dict.specs.Dictionary.{Dictionary, exchanged, mark_at}
 use Rattle.emp_step.specs.declared.outcome.StepFault.{StepFault}
-use Rattle.emp_step.specs.declared.outcome.StepFault.TheVariants.{Wide, Spent, NoMemory}
+use Rattle.emp_step.specs.declared.outcome.StepFault.TheVariants.{Wide, Spent}
 use Rattle.emp_step.specs.Steps.{Look, over, turn, raise_look, fix_look, best_look}
 use Rattle.emp_step.specs.Laws.{IsNumber, HasObjective}
 use Rattle.emp_face.specs.declared.look.Next.{Next}
@@ -38,4 +38,3 @@ abbrev pub TurnGives : ℕ → ℕ → Dictionary → Dictionary → ℕ → ℕ
 TurnGives r j d e m n (Ok u) = (exchanged d r j ≡ Some e) × (m ≡ suc n)
 TurnGives r j d e m n (Err Wide) = (exchanged d r j ≡ None) × (e ≡ d) × (m ≡ suc n)
 TurnGives r j d e m n (Err Spent) = (e ≡ d) × (m ≡ 0) × (n ≡ 0)
-TurnGives r j d e m n (Err NoMemory) = e ≡ d

@@ -3,6 +3,6 @@
 #![tactic(auto)]
 
 pub mod budget;
-mod look;
+pub mod look;
 mod run;
 pub mod steps;

@@ -98,7 +98,7 @@ fn lesser(dict: &Dict, column: usize, loose: bool, best: Option<usize>) -> Optio
 }
 
 /// The column of least index that is not Fixed and has a cell in the row.
-fn first_loose(dict: &Dict, row: usize) -> Option<usize>
+pub fn first_loose(dict: &Dict, row: usize) -> Option<usize>
     requires { row < length (dictionary_of dict.now).rows }
     ensures { result ≡ first_loose (dictionary_of dict.now) row (length (dictionary_of dict.now).columns) }
 {

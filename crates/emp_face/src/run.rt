@@ -1,5 +1,5 @@
 //! A step, pivot by pivot.
-ghost use Rattle.std.specs.Prelude.{◌≡◌, ◌≢◌, ◌<◌, pos, length, IfErr};
+ghost use Rattle.std.specs.Prelude.{◌≡◌, ◌≢◌, ◌<◌, pos, length};
 ghost use Rattle.emp_dict.specs.declared.label.Label.TheVariants.{Objective};
 ghost use Rattle.emp_dict.specs.Dictionary.{cell_at, row_label};
 ghost use Rattle.emp_dict.specs.Dicts.{dictionary_of};
@@ -13,7 +13,7 @@ use crate::look::{Next, Task, look};
 use emp_dict::dict::Dict;
 use emp_step::outcome::{Outcome, StepFault};
 
-/// Takes one unit of work, makes room, and makes the pivot.
+/// Takes one unit of work, and makes the pivot.
 fn turn(dict: &mut Dict, row: usize, column: usize, budget: &mut Budget) -> Result<(), StepFault>
     requires row { row < length (dictionary_of dict.old).rows }
     requires column { column < length (dictionary_of dict.old).columns }
@@ -24,9 +24,6 @@ fn turn(dict: &mut Dict, row: usize, column: usize, budget: &mut Budget) -> Resu
 {
     let Ok(()) = budget.take() else {
         return Err(StepFault::Spent);
-    };
-    let Ok(()) = dict.ready() else {
-        return Err(StepFault::NoMemory);
     };
     let Ok(()) = dict.pivot(row, column) else {
         return Err(StepFault::Wide);
@@ -41,7 +38,6 @@ pub fn run(dict: &mut Dict, task: Task, budget: &mut Budget) -> Result<Outcome, 
     ensures step { StepGives (repeated (looks task) (units_left budget.old) (dictionary_of dict.old)) (dictionary_of dict.new) (units_left budget.new) result }
     ensures limit { budget.new.limit ≡ budget.old.limit }
     ensures marks { (dictionary_of dict.new).marks ≡ (dictionary_of dict.old).marks }
-    ensures level { IfErr result (λ _. IsLevel (dictionary_of dict.new)) }
 {
     loop {
         match look(dict, task) {

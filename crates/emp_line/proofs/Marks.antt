@@ -29,7 +29,7 @@ copy_all out ls i e h = sym (append-nil out) ∙ (ap (λ r. out ++ r) (sym (drop
 pub ruleset copying = (copy_more, copy_all)
 
 -- ---- one line's flags
-pub keeps_all : (at : ℕ) (old : List (List Bool)) → KeepsOthers at old old
+keeps_all : (at : ℕ) (old : List (List Bool)) → KeepsOthers at old old
 keeps_all at old = record { columns = refl; sizes = λ k h. refl; others = λ k i n. refl }
 
 pub keeps_after : (at : ℕ) (old now new : List (List Bool)) → KeepsOthers at old now → KeepsOthers at now new → KeepsOthers at old new

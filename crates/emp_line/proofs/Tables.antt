@@ -17,7 +17,7 @@ use Rattle.std.proofs.lemmas.Bool.{cases_eq}
 use Rattle.std.proofs.lemmas.List.{get_or_default, drop_more, drop_all, append-nil, length-replicate, get_or-replicate}
 use Rattle.emp_line.proofs.Kept.{moved_sound}
 use Rattle.emp_line.proofs.Whole.{Done, done_start, done_own, done_moved, none_own, none_other, none_here, none_next, none_all}
-use Rattle.emp_line.specs.Indexed.{has_cell, flag, IsIndex, IsTable, IsMarked, HasPlace, HasFlags, IsFlagged}
+use Rattle.emp_line.specs.Indexed.{has_cell, flag, IsIndex, IsTable, IsMarked, KeepsOthers, HasPlace, HasFlags, IsFlagged}
 use Rattle.emp_line.specs.Place.{is_none, stands, MarksCells}
 use Rattle.emp_line.proofs.Rows.{whole, row_width, sign_apart, against_apart}
 use Rattle.emp_line.proofs.Marks.{keeps_after, stands_is}
@@ -48,8 +48,8 @@ row_marked l d c w at cs value old new e s p m = record {
     told k h = sym (stands_is w k cs s h) ∙ ap (λ (x : Line). has_cell x k) e
 
 -- the flags taken away and set anew
-pub place_kept : (w at : ℕ) (l : Line) (value : Bool) (old new : List (List Bool)) → HasPlace w at old → IsMarked l at value old new → HasPlace w at new
-place_kept w at l value old new p m = record { columns = m.rest.columns ∙ p.columns; sizes = λ k h. (let c = p.columns in let s = m.rest.sizes k (omega arith) in let q = p.sizes k h in omega arith) }
+pub place_kept : (w at : ℕ) (old new : List (List Bool)) → HasPlace w at old → KeepsOthers at old new → HasPlace w at new
+place_kept w at old new p m = record { columns = m.columns ∙ p.columns; sizes = λ k h. (let c = p.columns in let s = m.sizes k (omega arith) in let q = p.sizes k h in omega arith) }
 
 pub flagged_anew : (w at : ℕ) (l x : Line) (old none new : List (List Bool)) → HasPlace w at old → HasFlags l at old → IsMarked l at false old none → IsMarked x at true none new → IsFlagged x at old new
 flagged_anew w at l x old none new p f m n = record {

@@ -8,6 +8,7 @@ ghost use Rattle.emp_line.specs.Sparse.{no_cell, divided, numbers};
 
 use crate::binary::odd_divisor;
 use crate::cells::Cell;
+use crate::step::SMALL;
 use emp_num::exact::common_divisor;
 
 /// The greatest common divisor of two words, by Euclid's steps.
@@ -75,8 +76,6 @@ pub fn quotient(number: i128, divisor: u128) -> i128
     }
 }
 
-const SMALL: u128 = 4611686018427387904;
-
 /// A divisor with what makes exact division by it a product of words: the power of two in it, and the inverse of the rest modulo 2^64.
 ///
 /// Nothing rests on the two: each quotient that they give is tested by one product.
@@ -127,7 +126,7 @@ fn exact_at(divider: Divider, cells: &[Cell], at: usize) -> Option<i128>
     ensures { MatchOption result (Unit {0}) (λ q. q *ℤ pos divider.divisor ≡ (slice_index_or cells.now at no_cell).number) }
 {
     let quotient = candidate(divider, cells[at].number) as i128;
-    if divider.divisor < SMALL && quotient * (divider.divisor as i128) == cells[at].number {
+    if divider.divisor < SMALL as u128 && quotient * (divider.divisor as i128) == cells[at].number {
         Some(quotient)
     } else {
         None

@@ -9,7 +9,7 @@ use Rattle.emp_step.specs.declared.outcome.Outcome.TheVariants.{Held, Empty, Bes
 use Rattle.emp_step.specs.Steps.{End, ended, too_wide, spent}
 use Rattle.emp_step.specs.Levels.{MayBeColumn, IsLevel}
 use Rattle.emp_decide.specs.Laws.{started_of}
-use Rattle.emp_search.specs.Search.{asks_from, asked, closed, found, wide_at, out_of_units, Searched, first_state, search_of}
+use Rattle.emp_search.specs.Search.{asks_from, asked, closed, found, wide_at, out_of_units, Searched, first_state, search_from, search_of}
 use Rattle.emp_search.specs.Nodes.{IsNode, IsAsked}
 use Rattle.emp_search.specs.Shown.{SearchShows}
 use Rattle.emp_search.proofs.Working.{AllDone, AskedAs, Halfway, root_asks}
@@ -56,11 +56,14 @@ done s d spent h = tt
 pub root_asked : (s : RowSystem) (n : ℕ) → AskedAs s [] (AllDone s []) (asked (asks_from 1 s.kinds) n (started_of s)).dictionary (asked (asks_from 1 s.kinds) n (started_of s)).end
 root_asked s n = done s (asked (asks_from 1 s.kinds) n (started_of s)).dictionary (asked (asks_from 1 s.kinds) n (started_of s)).end (root_asks s s.kinds 1 n (started_of s) (omega arith) refl (let o = s.sound.one_kind_each in omega arith) (start_node s) (halfway s))
 
-pub searches_show : (s : RowSystem) (limit : ℕ) → SearchShows s (search_of s limit)
-searches_show s limit = go (search_of s limit) (searched_comes s limit limit [] (asks_from 1 s.kinds) (started_of s) (first_state limit) (root_asked s) tt)
+pub searches_from_show : (s : RowSystem) (limit left nodes : ℕ) → SearchShows s (search_from s limit left nodes)
+searches_from_show s limit left nodes = go (search_from s limit left nodes) (searched_comes s limit limit [] (asks_from 1 s.kinds) (started_of s) (first_state left nodes) (root_asked s) tt)
   where
-    go : (r : Searched) → ComesTo s [] (first_state limit) r → SearchShows s r
+    go : (r : Searched) → ComesTo s [] (first_state left nodes) r → SearchShows s r
     go (closed st) h = record { tree = h.tree; written = h.written; shows = h.shows; best = h.best }
     go (found f st) h = h
     go (wide_at n p) h = tt
     go out_of_units h = tt
+
+pub searches_show : (s : RowSystem) (limit : ℕ) → SearchShows s (search_of s limit)
+searches_show s limit = searches_from_show s limit limit 0

@@ -24,6 +24,7 @@ use Rattle.emp_dict.specs.declared.label.Aim.TheVariants.{Least}
 use Rattle.emp_dict.specs.declared.label.Choice.TheVariants.{Stop, Ray as RayChoice}
 use Rattle.emp_dict.specs.Dictionary.{Dictionary, line_at, column_label, mark_at, row_of, label_eq}
 use Rattle.emp_dict.specs.Chosen.{chosen}
+use Rattle.emp_dict.specs.Places.{is_positive}
 use Rattle.emp_dict.proofs.Labels.{label_eq-false}
 use Rattle.emp_step.specs.declared.outcome.Outcome.{Outcome}
 use Rattle.emp_step.specs.declared.outcome.Outcome.TheVariants.{Held, Empty, Best, Ray}
@@ -33,7 +34,7 @@ use Rattle.emp_decide.specs.Reads.{farkas_factors, bound_weight, bound_factors, 
 use Rattle.emp_decide.specs.Laws.{IsDictionaryOf, IsRefused}
 use Rattle.emp_decide.proofs.Decides.{refused_refutes, least_bounds, has_objective}
 use Rattle.emp_decide.proofs.Rows.{line_is}
-use Rattle.emp_search.specs.Search.{Ask, fixes, asked, worked, is_above, above_by, above, both_above, still_by, still, is_broken, first_pair, point, ray, leaf, finding, is_bounded, split_or, bound_of, decided, State, Searched, closed, found, wide_at, out_of_units, writes, then_second, by_decision, by_end, opened, searched}
+use Rattle.emp_search.specs.Search.{Ask, fixes, asked, worked, above_by, above, both_above, still_by, still, is_broken, first_pair, point, ray, leaf, finding, is_bounded, split_or, bound_of, decided, State, Searched, closed, found, wide_at, out_of_units, writes, then_second, by_decision, by_end, opened, searched}
 use Rattle.emp_search.specs.Nodes.{IsNode, PathFixed, IsSettled}
 use Rattle.emp_search.specs.Shown.{objective_row, Reaches, ShowsFor, IsSolved, BestIs, FoundIs}
 use Rattle.emp_search.proofs.Outcomes.{rays}
@@ -65,10 +66,10 @@ first_none test k (q ∷ ps) e i h = go (test q) refl e i h (λ r. first_none te
     go false t h (suc i) b rest = rest h i (omega arith)
 
 -- ---- members of pairs
-first_number : (s : RowSystem) (i : ℕ) → i < length s.pairs → (0 < (get_or s.pairs i (0, 0)).0) × ((get_or s.pairs i (0, 0)).0 ≤ length s.quantities)
+pub first_number : (s : RowSystem) (i : ℕ) → i < length s.pairs → (0 < (get_or s.pairs i (0, 0)).0) × ((get_or s.pairs i (0, 0)).0 ≤ length s.quantities)
 first_number s i b = let m = All-get_or (λ q. IsMember s.kinds q.0) s.pairs i (0, 0) b s.sound.first_members in (m.above, let w = m.within in let o = s.sound.one_kind_each in omega arith)
 
-second_number : (s : RowSystem) (i : ℕ) → i < length s.pairs → (0 < (get_or s.pairs i (0, 0)).1) × ((get_or s.pairs i (0, 0)).1 ≤ length s.quantities)
+pub second_number : (s : RowSystem) (i : ℕ) → i < length s.pairs → (0 < (get_or s.pairs i (0, 0)).1) × ((get_or s.pairs i (0, 0)).1 ≤ length s.quantities)
 second_number s i b = let m = All-get_or (λ q. IsMember s.kinds q.1) s.pairs i (0, 0) b s.sound.second_members in (m.above, let w = m.within in let o = s.sound.one_kind_each in omega arith)
 
 -- ---- a Fixed member is not above 0, and stays 0
@@ -77,7 +78,7 @@ fixed_not_above s p d n k f = go (row_of d (Quantity k)) refl
   where
     go : (o : Option ℕ) → row_of d (Quantity k) ≡ o → above_by d o ≡ false
     go None e = refl
-    go (Some i) e = let r = row_found d (Quantity k) i e in ap is_above (n.level.fixed i k r.below r.label f)
+    go (Some i) e = let r = row_found d (Quantity k) i e in ap is_positive (n.level.fixed i k r.below r.label f)
 
 fixed_still : (s : RowSystem) (p : List Turn) (d : Dictionary) → IsNode s p d → (k j : ℕ) → mark_at d k ≡ Fixed → j < length d.columns → mark_of_label d (column_label d j) ≢ Fixed → still d j k ≡ true
 fixed_still s p d n k j f b free = go (row_of d (Quantity k)) refl
@@ -156,12 +157,12 @@ crossing v k ec ed dc dd pe pd pk h g =
     let r : dc *ℤ k *ℤ ed ≡ dc *ℤ ed *ℤ k = by_ring (dc ∷ k ∷ ed ∷ []) (var 0 ⊗ var 1 ⊗ var 2) (var 0 ⊗ var 2 ⊗ var 1) refl in
     le_cancel_right (v *ℤ dd) (dc *ℤ k) ed (omega (arith, linear)) pe
 
-above-false : (z : ℤ) → not (is_above z) ≡ true → z ≤ℤ pos 0
+above-false : (z : ℤ) → not (is_positive z) ≡ true → z ≤ℤ pos 0
 above-false (pos zero) e = omega (arith, ints)
 above-false (pos (suc n)) e = absurd (cc)
 above-false (negsuc n) e = omega (arith, ints)
 
-above-true : (z : ℤ) → not (is_above z) ≡ false → pos 0 ≤ℤ z
+above-true : (z : ℤ) → not (is_positive z) ≡ false → pos 0 ≤ℤ z
 above-true (pos n) e = omega (arith, ints)
 above-true (negsuc n) e = absurd (cc)
 

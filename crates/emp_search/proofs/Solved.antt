@@ -10,6 +10,7 @@ use Rattle.emp_algebra.proofs.Laws.{mul_nonneg}
 use Rattle.emp_algebra.specs.Vector.{dot}
 use Rattle.emp_algebra.specs.Deciding.{IsOfKind}
 use Rattle.emp_line.specs.Pivot.{is_zero}
+use Rattle.emp_line.proofs.Exchange.{is_zero-true}
 use Rattle.emp_num.specs.Point.{Point, StandsFor}
 use Rattle.emp_num.specs.declared.frac.Frac.{Frac}
 use Rattle.emp_rows.specs.declared.affine.Affine.{Affine}
@@ -28,6 +29,7 @@ use Rattle.emp_dict.specs.declared.label.Aim.TheVariants.{Least}
 use Rattle.emp_dict.specs.declared.label.Choice.TheVariants.{Ray as RayChoice}
 use Rattle.emp_dict.specs.Dictionary.{Dictionary, line_at, cell_at, row_label, column_label, mark_at, row_of, label_eq, affine_value, objective_value}
 use Rattle.emp_dict.specs.Chosen.{chosen, index_in, mark_by_index, turn_mark, is_up}
+use Rattle.emp_dict.specs.Places.{is_positive}
 use Rattle.emp_dict.proofs.Starts.{label_quantity}
 use Rattle.emp_step.specs.Steps.{mark_of_label}
 use Rattle.emp_dict.proofs.Labels.{label_eq-true}
@@ -37,7 +39,7 @@ use Rattle.emp_decide.specs.Reads.{value_by, value_of, IsPointOf, way, rate_by, 
 use Rattle.emp_decide.specs.Laws.{IsDictionaryOf, IsLabelOf}
 use Rattle.emp_decide.proofs.Points.{points_tell, steps_tell, bottom_pos, rate_bottom_pos}
 use Rattle.emp_decide.proofs.Decides.{has_objective}
-use Rattle.emp_search.specs.Search.{is_above, above_by, above, both_above, still_by, still, is_broken}
+use Rattle.emp_search.specs.Search.{above_by, above, both_above, still_by, still, is_broken}
 use Rattle.emp_search.specs.Nodes.{IsSettled}
 use Rattle.emp_search.proofs.Outcomes.{Rays, rays}
 
@@ -111,7 +113,7 @@ module _ (s : RowSystem) (p : List Turn) (d : Dictionary) (st : IsSettled s p d)
     not_above : (k : ℕ) → 0 < k → k ≤ length s.quantities → above d k ≡ false → value_at (quantity s k) x ≡ pos 0
     not_above k a l e = zero_value k a l (go (row_of d (Quantity k)) e (value_kind k a l (row_of d (Quantity k)) refl).1)
       where
-        sign : (z : ℤ) → is_above z ≡ false → pos 0 ≤ℤ z → z ≡ pos 0
+        sign : (z : ℤ) → is_positive z ≡ false → pos 0 ≤ℤ z → z ≡ pos 0
         sign (pos zero) q h = refl
         sign (pos (suc n)) q h = absurd (cc)
         sign (negsuc n) q h = absurd h.le
@@ -199,11 +201,6 @@ module _ (s : RowSystem) (p : List Turn) (d : Dictionary) (st : IsSettled s p d)
       rate_of_kind : (k : ℕ) → 0 < k → k ≤ length s.quantities → (v : Kind) → get_or s.kinds (k - 1) Zero ≡ v → IsOfKind (sort_of v) (rate_along (quantity s k) y)
       rate_of_kind k a l Zero e = zero_rate k a l ((rate_kind k a l (row_of d (Quantity k)) refl).0 (kind_fixed k a l e))
       rate_of_kind k a l Nonneg e = nonneg_through (rate_along (quantity s k) y) (rate_of d j up (Quantity k)).bottom (rate_of d j up (Quantity k)).top y.den (rate_bottom_pos d j up t.sound (Quantity k)) y.positive (rate_told k a l) (rate_kind k a l (row_of d (Quantity k)) refl).1
-
-      is_zero-true : (z : ℤ) → is_zero z ≡ true → z ≡ pos 0
-      is_zero-true (pos zero) e = refl
-      is_zero-true (pos (suc n)) e = absurd (cc)
-      is_zero-true (negsuc n) e = absurd (cc)
 
       -- a member that stays 0
       stays : (k : ℕ) → 0 < k → k ≤ length s.quantities → still d j k ≡ true → StaysZero (quantity s k) x y

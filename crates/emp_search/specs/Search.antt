@@ -1,7 +1,7 @@
 -- The search of a row system: nodes are opened one after another, each with what it asks and with the dictionary that its parent ended with.
 -- Without an objective it ends at the first point, or where no node is left. With one it goes on with the best point so far, the incumbent, until no
 -- node is left, or ends at a ray. What it writes is the tree of a certificate, in preorder.
-use Rattle.std.specs.Prelude.{ℕ, zero, suc, ◌+◌, ◌-◌, ℤ, pos, negsuc, ◌*ℤ◌, ◌-ℤ◌, Bool, true, false, cond, ◌&&◌, ◌||◌, not, List, [], ◌∷◌, ◌++◌, length, Option, Some, None}
+use Rattle.std.specs.Prelude.{ℕ, zero, suc, ◌+◌, ◌-◌, ◌*ℤ◌, ◌-ℤ◌, Bool, false, cond, ◌&&◌, ◌||◌, not, List, [], ◌∷◌, ◌++◌, length, Option, Some, None}
 use Rattle.emp_line.specs.Pivot.{is_zero}
 use Rattle.emp_rows.specs.declared.affine.Affine.{Affine}
 use Rattle.emp_rows.specs.declared.system.Kind.{Kind}
@@ -12,6 +12,7 @@ use Rattle.emp_cert.specs.declared.tree.Node.{Node}
 use Rattle.emp_cert.specs.declared.tree.Node.TheVariants.{Branch, Farkas, Bound}
 use Rattle.emp_dict.specs.declared.label.Label.TheVariants.{Quantity}
 use Rattle.emp_dict.specs.Dictionary.{Dictionary, line_at, cell_at, column_label, row_of, label_eq, started}
+use Rattle.emp_dict.specs.Places.{is_positive}
 use Rattle.emp_step.specs.declared.outcome.Outcome.{Outcome}
 use Rattle.emp_step.specs.declared.outcome.Outcome.TheVariants.{Held, Empty, Best, Ray}
 use Rattle.emp_step.specs.Steps.{End, ended, too_wide, spent, Stepped, stepped, raised, fixed, bested}
@@ -61,15 +62,10 @@ abbrev pub worked : RowSystem → List Ask → ℕ → Dictionary → Stepped
 worked s as' left d = worked_by s.objective as' left d
 
 -- ---- pairs
-abbrev pub is_above : ℤ → Bool
-is_above (pos zero) = false
-is_above (pos (suc n)) = true
-is_above (negsuc n) = false
-
 -- the quantity is above 0 at the dictionary's point
 abbrev pub above_by : Dictionary → Option ℕ → Bool
 above_by d None = false
-above_by d (Some r) = is_above (line_at d r).constant
+above_by d (Some r) = is_positive (line_at d r).constant
 
 abbrev pub above : Dictionary → ℕ → Bool
 above d k = above_by d (row_of d (Quantity k))
@@ -109,7 +105,7 @@ pub data Decision : Type 0 where
 -- the objective in row r of d is at least what it is at the incumbent
 abbrev pub is_bounded : Option Dictionary → Dictionary → ℕ → Bool
 is_bounded None d r = false
-is_bounded (Some e) d r = not (is_above ((line_at e (length e.marks)).constant *ℤ (line_at d r).denom -ℤ (line_at d r).constant *ℤ (line_at e (length e.marks)).denom))
+is_bounded (Some e) d r = not (is_positive ((line_at e (length e.marks)).constant *ℤ (line_at d r).denom -ℤ (line_at d r).constant *ℤ (line_at e (length e.marks)).denom))
 
 abbrev pub split_or : Decision → Option ℕ → Decision
 split_or end None = end
@@ -174,9 +170,13 @@ abbrev pub searched : RowSystem → ℕ → ℕ → List Ask → Dictionary → 
 searched s limit zero as' d st = out_of_units
 searched s limit (suc most) as' d st = opened (searched s limit most) s limit as' d st st.left
 
-abbrev pub first_state : ℕ → State
-first_state limit = record { written = []; best = None; left = limit; nodes = 0 }
+abbrev pub first_state : ℕ → ℕ → State
+first_state left nodes = record { written = []; best = None; left = left; nodes = nodes }
+
+-- the search of the system where so many units of the limit are left and so many nodes were opened
+abbrev pub search_from : RowSystem → ℕ → ℕ → ℕ → Searched
+search_from s limit left nodes = searched s limit limit (asks_from 1 s.kinds) (started s.base s.quantities s.objective) (first_state left nodes)
 
 -- the search of the system with so many units
 abbrev pub search_of : RowSystem → ℕ → Searched
-search_of s limit = searched s limit limit (asks_from 1 s.kinds) (started s.base s.quantities s.objective) (first_state limit)
+search_of s limit = search_from s limit limit 0

@@ -12,7 +12,7 @@ use Rattle.emp_cert.specs.Verdicts.{IsRowRay}
 use Rattle.emp_dict.specs.Dictionary.{Dictionary, line_at}
 use Rattle.emp_decide.specs.Reads.{IsPointOf, IsStepOf}
 use Rattle.emp_decide.specs.Laws.{IsDictionaryOf}
-use Rattle.emp_search.specs.Search.{Finding, point, ray, State, Searched, closed, found, wide_at, out_of_units, search_of}
+use Rattle.emp_search.specs.Search.{Finding, point, ray, State, Searched, closed, found, wide_at, out_of_units, search_from, search_of}
 
 -- the objective's row
 abbrev pub objective_row : Dictionary → Line
@@ -56,3 +56,7 @@ SearchShows s out_of_units = Unit {0}
 
 abbrev pub SearchesShow : Type 0
 SearchesShow = (s : RowSystem) (limit : ℕ) → SearchShows s (search_of s limit)
+
+-- also where others took units and nodes before
+abbrev pub SearchesFromShow : Type 0
+SearchesFromShow = (s : RowSystem) (limit left nodes : ℕ) → SearchShows s (search_from s limit left nodes)

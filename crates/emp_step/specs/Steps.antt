@@ -15,7 +15,7 @@ use Rattle.emp_dict.specs.Chosen.{chosen, index_in}
 use Rattle.emp_step.specs.declared.outcome.Outcome.{Outcome}
 use Rattle.emp_step.specs.declared.outcome.Outcome.TheVariants.{Held, Empty, Best, Ray}
 use Rattle.emp_step.specs.declared.outcome.StepFault.{StepFault}
-use Rattle.emp_step.specs.declared.outcome.StepFault.TheVariants.{Wide, Spent, NoMemory}
+use Rattle.emp_step.specs.declared.outcome.StepFault.TheVariants.{Wide, Spent}
 
 -- what a look says: the step is over, or the pivot on a row and a column is next
 pub data Look : Type 0 where
@@ -158,4 +158,3 @@ abbrev pub StepGives : Stepped → Dictionary → ℕ → Result Outcome StepFau
 StepGives s d left (Ok o) = s ≡ stepped (ended o) d left
 StepGives s d left (Err Wide) = s ≡ stepped too_wide d left
 StepGives s d left (Err Spent) = s ≡ stepped spent d left
-StepGives s d left (Err NoMemory) = Unit {0}

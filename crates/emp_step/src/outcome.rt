@@ -20,6 +20,4 @@ pub enum StepFault {
     Wide,
     /// A pivot is next and no unit of work is left.
     Spent,
-    /// No memory is left.
-    NoMemory,
 }

@@ -11,7 +11,7 @@ use Rattle.emp_dict.specs.Dictionary.{Dictionary, column_label, mark_at}
 use Rattle.emp_step.specs.declared.outcome.Outcome.{Outcome}
 use Rattle.emp_step.specs.declared.outcome.Outcome.TheVariants.{Held, Empty, Best, Ray}
 use Rattle.emp_step.specs.declared.outcome.StepFault.{StepFault}
-use Rattle.emp_step.specs.declared.outcome.StepFault.TheVariants.{Wide, Spent, NoMemory}
+use Rattle.emp_step.specs.declared.outcome.StepFault.TheVariants.{Wide, Spent}
 use Rattle.emp_step.specs.Steps.{StepGives, End, ended, too_wide, spent, Stepped, stepped, mark_by, raised, fixed, bested}
 use Rattle.emp_step.specs.Laws.{IsNumber, HasObjective, LeavesLevel, Keeps}
 use Rattle.emp_step.proofs.Marks.{fixed_index}
@@ -117,7 +117,6 @@ then_holds rest w e n h = ap (λ y. and_then y rest) h
 pub then_fails : (rest : ℕ → Dictionary → Stepped) (w : Stepped) (e : Dictionary) (n : ℕ) (x : StepFault) → StepGives w e n (Err x) → StepGives (and_then w rest) e n (Err x)
 then_fails rest w e n Wide h = ap (λ y. and_then y rest) h
 then_fails rest w e n Spent h = ap (λ y. and_then y rest) h
-then_fails rest w e n NoMemory h = tt
 
 -- where nothing more is asked, that is all
 pub then_nothing : (w : Stepped) (e : Dictionary) (n : ℕ) (r : Result Outcome StepFault) → StepGives w e n r → StepGives (and_then w (asked [])) e n r

@@ -55,26 +55,26 @@ reaches_own s o d fs x t e p st = go (row_of d Objective) refl (points_tell s d 
         omega (arith, linear)
 
 -- ---- what the search shows, of how it ended
-shows_at : (s : RowSystem) (units : ℕ) (r : Searched) → search_of s units ≡ r → SearchShows s r
-shows_at s units r e = subst (SearchShows s) e (searches_show s units)
+shows_at : (s : RowSystem) (whole : Searched) → SearchShows s whole → (r : Searched) → whole ≡ r → SearchShows s r
+shows_at s whole shown r e = subst (SearchShows s) e shown
 
 best_shown : (s : RowSystem) (st : State) (d : Dictionary) → st.best ≡ Some d → IsShown s st → ((o : Affine) × (s.objective ≡ Some o)) × IsSolved s d
 best_shown s st d e h = subst (BestIs s) e h.best
 
-pub verdict_shown : (s : RowSystem) (units : ℕ) (st : State) (v : Verdict) → VerdictGives (search_of s units) st v → VerdictShown s v
-verdict_shown s units st (PointVerdict fs) g =
-    let h : FoundIs s (point g.0) = shows_at s units (found (point g.0) st) g.1 in
+pub verdict_shown : (s : RowSystem) (whole : Searched) → SearchShows s whole → (st : State) (v : Verdict) → VerdictGives whole st v → VerdictShown s v
+verdict_shown s whole shown st (PointVerdict fs) g =
+    let h : FoundIs s (point g.0) = shows_at s whole shown (found (point g.0) st) g.1 in
     (h.0, λ p k. h.1.solves fs p g.2 k)
-verdict_shown s units st (Missing t) g =
-    let h : IsShown s st = shows_at s units (closed st) g.0 in
+verdict_shown s whole shown st (Missing t) g =
+    let h : IsShown s st = shows_at s whole shown (closed st) g.0 in
     (h.tree, sym h.written ∙ sym g.2, subst (λ b. ShowsFor s b [] h.tree) g.1 h.shows)
-verdict_shown s units st (Best fs t) g =
-    let h : IsShown s st = shows_at s units (closed st) g.1 in
+verdict_shown s whole shown st (Best fs t) g =
+    let h : IsShown s st = shows_at s whole shown (closed st) g.1 in
     let b = best_shown s st g.0 g.2 h in
     let shows : ShowsFor s (Some g.0) [] h.tree = subst (λ x. ShowsFor s x [] h.tree) g.2 h.shows in
     (b.0.0, b.0.1, (h.tree, sym h.written ∙ sym g.4, λ p k. (b.1.solves fs p g.3 k, shows b.0.0 b.0.1 p (reaches_own s b.0.0 g.0 fs p b.1.dictionary b.0.1 g.3 k))))
-verdict_shown s units st (Unbounded fs gs) g =
-    let h : FoundIs s (ray g.0 g.1 g.2) = shows_at s units (found (ray g.0 g.1 g.2) st) g.3 in
+verdict_shown s whole shown st (Unbounded fs gs) g =
+    let h : FoundIs s (ray g.0 g.1 g.2) = shows_at s whole shown (found (ray g.0 g.1 g.2) st) g.3 in
     (h.0.0, h.0.1, λ p y k l. h.1 fs gs p y g.4 g.5 k l)
 
 -- ---- the lists of a verdict are as long as the system says
@@ -88,17 +88,17 @@ ray_widths s fs gs h =
     let r = h (common_point fs) (common_point gs) k l in
     (sym k.count ∙ r.point.count, sym l.count ∙ r.count)
 
-pub verdict_fits : (s : RowSystem) (units : ℕ) (st : State) (v : Verdict) → VerdictGives (search_of s units) st v → WrittenFit s st.written → VerdictFits s.base (length s.quantities) (length s.pairs) v
-verdict_fits s units st (PointVerdict fs) g w =
-    let h : FoundIs s (point g.0) = shows_at s units (found (point g.0) st) g.1 in
+pub verdict_fits : (s : RowSystem) (whole : Searched) → SearchShows s whole → (st : State) (v : Verdict) → VerdictGives whole st v → WrittenFit s st.written → VerdictFits s.base (length s.quantities) (length s.pairs) v
+verdict_fits s whole shown st (PointVerdict fs) g w =
+    let h : FoundIs s (point g.0) = shows_at s whole shown (found (point g.0) st) g.1 in
     point_width s g.0 fs h.1.dictionary g.2
-verdict_fits s units st (Missing t) g w = subst (WrittenFit s) (sym g.2) w
-verdict_fits s units st (Best fs t) g w =
-    let h : IsShown s st = shows_at s units (closed st) g.1 in
+verdict_fits s whole shown st (Missing t) g w = subst (WrittenFit s) (sym g.2) w
+verdict_fits s whole shown st (Best fs t) g w =
+    let h : IsShown s st = shows_at s whole shown (closed st) g.1 in
     let b = best_shown s st g.0 g.2 h in
     (point_width s g.0 fs b.1.dictionary g.3, subst (WrittenFit s) (sym g.4) w)
-verdict_fits s units st (Unbounded fs gs) g w =
-    let h : FoundIs s (ray g.0 g.1 g.2) = shows_at s units (found (ray g.0 g.1 g.2) st) g.3 in
+verdict_fits s whole shown st (Unbounded fs gs) g w =
+    let h : FoundIs s (ray g.0 g.1 g.2) = shows_at s whole shown (found (ray g.0 g.1 g.2) st) g.3 in
     ray_widths s fs gs (λ p y k l. h.1 fs gs p y g.4 g.5 k l)
 
 -- ---- certificates
@@ -113,7 +113,7 @@ pub found_gives : (s : RowSystem) (units : ℕ) (a : Answer) (f : Found) → Ans
 found_gives s units a f g n e = record {
   names = n;
   answer = subst (AnswerGives (search_of s units) units) (sym e) g;
-  shown = subst (λ (x : Answer). VerdictShown s x.verdict) (sym e) (verdict_shown s units g.state a.verdict g.verdict);
+  shown = subst (λ (x : Answer). VerdictShown s x.verdict) (sym e) (verdict_shown s (search_of s units) (searches_show s units) g.state a.verdict g.verdict);
 }
 
 walk_kind : (s : RowSystem) (v : Verdict) → s.objective ≡ None → VerdictShown s v → IsWalkVerdict v

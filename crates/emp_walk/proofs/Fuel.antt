@@ -41,7 +41,7 @@ then_left rest w n b h = go w.end
     go too_wide = b
     go spent = b
 
-asked_left : (as' : List Ask) (n : ℕ) (d : Dictionary) → (asked as' n d).left ≤ n
+pub asked_left : (as' : List Ask) (n : ℕ) (d : Dictionary) → (asked as' n d).left ≤ n
 asked_left [] n d = omega arith
 asked_left (a ∷ as') n d = then_left (asked as') (step_of a n d) n (step_left a n d) (λ m e. asked_left as' m e)
 

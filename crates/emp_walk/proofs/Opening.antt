@@ -45,7 +45,7 @@ resumed_found run [] f st = refl
 resumed_found run (b ∷ bs) f st = ap (second_of run b) (resumed_found run bs f st)
 
 -- ---- the node of a course
-one_less : (before taken : Budget) → taken.used ≡ before.used + 1 → taken.limit ≡ before.limit → units_left before ≡ suc (units_left taken)
+pub one_less : (before taken : Budget) → taken.used ≡ before.used + 1 → taken.limit ≡ before.limit → units_left before ≡ suc (units_left taken)
 one_less before taken u l = let k = taken.kept in omega arith
 
 module _ (s : RowSystem) (c : Course) (taken : Budget) (used : taken.used ≡ c.budget.used + 1) (limit : taken.limit ≡ c.budget.limit) where

@@ -98,16 +98,17 @@ EndFits c Point = Unit {0}
 EndFits c (Ray j up) = j < length (dictionary_of c.dict).columns
 
 -- ---- what the parts of a turn give
--- before the root is opened
-pub record IsStart (s : RowSystem) (units : ℕ) (c : Course) : Type 0 where
+-- before the root is opened, where so many units of the limit are used and so many nodes were opened
+pub record IsStartFrom (s : RowSystem) (units taken opened : ℕ) (c : Course) : Type 0 where
   pub dictionary : dictionary_of c.dict ≡ started_of s
   pub asks : c.asks ≡ Root
   pub stack : c.stack ≡ []
   pub best : c.best ≡ None
   pub written : c.written ≡ []
-  pub nodes : c.nodes ≡ 0
+  pub nodes : c.nodes ≡ opened
   pub limit : c.budget.limit ≡ units
-  pub used : c.budget.used ≡ 0
+  pub used : c.budget.used ≡ taken
+  pub fits : opened ≤ taken
 
 -- a fault comes exactly where the search comes to it
 abbrev pub FaultGives : Searched → ℕ → WalkFault → Type 0

@@ -6,7 +6,7 @@ use Rattle.emp_cert.specs.declared.cert.Verdict.TheVariants.{Point, Missing, Bes
 use Rattle.emp_dict.specs.Dictionary.{Dictionary}
 use Rattle.emp_decide.specs.Reads.{IsPointOf, IsStepOf}
 use Rattle.emp_ends.specs.Ends.{nodes_below, node_units}
-use Rattle.emp_search.specs.Search.{point, ray, State, Searched, closed, found, search_of}
+use Rattle.emp_search.specs.Search.{point, ray, State, Searched, closed, found, search_from, search_of}
 use Rattle.emp_walk.specs.declared.fault.WalkFault.{WalkFault}
 use Rattle.emp_walk.specs.declared.fault.WalkFault.TheVariants.{Spent}
 use Rattle.emp_walk.specs.declared.search.Answer.{Answer}
@@ -25,6 +25,11 @@ pub record AnswerGives (r : Searched) (limit : ℕ) (a : Answer) : Type 0 where
   pub verdict : VerdictGives r state a.verdict
   pub work : a.work ≡ limit - state.left
   pub nodes : a.nodes ≡ state.nodes
+
+-- each outcome comes exactly where the search of the system ends so, with so many units left of the limit and after so many nodes
+abbrev pub SearchFromGives : RowSystem → ℕ → ℕ → ℕ → Result Answer WalkFault → Type 0
+SearchFromGives s limit left nodes (Ok a) = AnswerGives (search_from s limit left nodes) limit a
+SearchFromGives s limit left nodes (Err f) = FaultGives (search_from s limit left nodes) limit f
 
 -- each outcome comes exactly where the search of the system with so many units ends so
 abbrev pub SearchGives : RowSystem → ℕ → Result Answer WalkFault → Type 0

@@ -46,7 +46,7 @@ fn ask_all<S: Steps>(
 }
 
 /// Does what a node asks.
-fn ask_each<S: Steps>(
+pub fn ask_each<S: Steps>(
     steps: &mut S,
     system: &RowSystem,
     dict: &mut Kept,

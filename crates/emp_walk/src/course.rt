@@ -58,12 +58,18 @@ pub struct Course {
 }
 
 impl Course {
-    ghost use Rattle.emp_walk.specs.Courses.{CloseGives, CourseFits, EndFits, FaultGives, Goes, IsKept, IsSplit, IsStart, LeafFits, OpenGives, PlaceFits, TurnGives, closed_at, decided_at, pending, wrote};
+    ghost use Rattle.emp_walk.specs.Courses.{CloseGives, CourseFits, EndFits, FaultGives, Goes, IsKept, IsSplit, IsStartFrom, LeafFits, OpenGives, PlaceFits, TurnGives, closed_at, decided_at, pending, wrote};
     ghost use Rattle.emp_walk.specs.Decisions.{NextFits, decision_of};
 
-    /// The course of a search before its root is opened.
-    pub fn start(alloc: Global, system: &RowSystem, limit: u64) -> Result<Course, NoMemory>
-        ensures { IfOk result (IsStart system.now limit) }
+    /// The course of a search before its root is opened, on a budget of which others may have taken units, after so many nodes.
+    pub fn start(
+        alloc: Global,
+        system: &RowSystem,
+        budget: Budget,
+        nodes: u64,
+    ) -> Result<Course, NoMemory>
+        requires { nodes ≤ budget.used }
+        ensures { IfOk result (IsStartFrom system.now budget.limit budget.used nodes) }
     {
         Ok(Course {
             dict: Kept::start(alloc, system)?,
@@ -71,8 +77,8 @@ impl Course {
             stack: Seq::new(alloc),
             best: None,
             written: Seq::new(alloc),
-            nodes: 0,
-            budget: Budget::new(limit),
+            nodes,
+            budget,
         })
     }
 
@@ -92,7 +98,6 @@ impl Course {
                 Err(WalkFault::Wide(self.nodes, self.budget.used - self.nodes))
             }
             Err(StepFault::Spent) => Err(WalkFault::Spent(self.budget.limit)),
-            Err(StepFault::NoMemory) => Err(WalkFault::NoMemory),
         }
     }
 

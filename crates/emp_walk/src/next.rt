@@ -4,7 +4,8 @@ ghost use Rattle.std.specs.Option.{option_map};
 ghost use Rattle.emp_num.specs.FracSpec.{IsQuotient};
 ghost use Rattle.emp_dict.specs.Dictionary.{line_at};
 ghost use Rattle.emp_dict.specs.Dicts.{dictionary_of};
-ghost use Rattle.emp_search.specs.Search.{above, decided, is_above, first_pair, is_bounded, still};
+ghost use Rattle.emp_dict.specs.Places.{is_positive};
+ghost use Rattle.emp_search.specs.Search.{above, decided, first_pair, is_bounded, still};
 ghost use Rattle.emp_walk.specs.Fits.{DoneFits, IsAt};
 ghost use Rattle.emp_walk.specs.Decisions.{BestFits, NextFits, TestFits, decision_of, passes, split_next};
 
@@ -100,7 +101,7 @@ fn value(dict: &Dict, row: usize) -> Frac
 /// Whether the first fraction is at most the second.
 #[tactic(auto, using(crate::proofs::Deciding::order_above))]
 fn reaches(a: Frac, b: Frac) -> bool
-    ensures { result ≡ not (is_above (a.num *ℤ b.den -ℤ b.num *ℤ a.den)) }
+    ensures { result ≡ not (is_positive (a.num *ℤ b.den -ℤ b.num *ℤ a.den)) }
 {
     match Frac::cmp(a, b) {
         Ordering::Less => true,

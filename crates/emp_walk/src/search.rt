@@ -1,12 +1,13 @@
 //! The search of a row system.
-ghost use Rattle.std.specs.Prelude.{◌≡◌, length, IfOk};
+ghost use Rattle.std.specs.Prelude.{◌≡◌, ◌≤◌, length, IfOk};
+ghost use Rattle.emp_face.specs.Budgets.{units_left};
 ghost use Rattle.emp_cert.specs.Certs.{VerdictFits};
 ghost use Rattle.emp_cert.specs.Nodes.{AreTrees};
 ghost use Rattle.emp_search.specs.Search.{closed};
 ghost use Rattle.emp_walk.specs.Courses.{CourseFits, EndFits, ending_of, state_of};
 ghost use Rattle.emp_walk.specs.declared.course.End.TheVariants.{Point, Ray};
 ghost use Rattle.emp_walk.specs.Runs.{EndWhole, RunGives};
-ghost use Rattle.emp_walk.specs.Searches.{SearchGives, VerdictGives};
+ghost use Rattle.emp_walk.specs.Searches.{SearchFromGives, SearchGives, VerdictGives};
 
 use crate::course::{Course, End};
 use crate::fault::WalkFault;
@@ -14,6 +15,7 @@ use crate::kept::{FaceSteps, Steps};
 use emp_cert::cert::Verdict;
 use emp_cert::tree::Tree;
 use emp_decide::point::{point_of, step_of};
+use emp_face::budget::Budget;
 use emp_list::memory::NoMemory;
 use emp_list::seq::Seq;
 use emp_rows::system::RowSystem;
@@ -90,17 +92,19 @@ fn verdict(course: &mut Course, alloc: Global, end: End) -> Result<Verdict, NoMe
     }
 }
 
-/// The same as `search`, by the steps that are given. It moves dictionaries by them alone.
-pub fn search_by<S: Steps>(
+/// The same as `search_from`, by the steps that are given. It moves dictionaries by them alone.
+pub fn search_on<S: Steps>(
     steps: &mut S,
     alloc: Global,
     system: &RowSystem,
-    work: u64,
+    budget: Budget,
+    nodes: u64,
 ) -> Result<Answer, WalkFault>
-    ensures search { SearchGives system.now work result }
+    requires { nodes ≤ budget.used }
+    ensures search { SearchFromGives system.now budget.limit (units_left budget) nodes result }
     ensures fits { IfOk result (λ a. VerdictFits system.now.base (length system.now.quantities) (length system.now.pairs) a.verdict) }
 {
-    let Ok(mut course) = Course::start(alloc, system, work) else {
+    let Ok(mut course) = Course::start(alloc, system, budget, nodes) else {
         return Err(WalkFault::NoMemory);
     };
     let end = match run(&mut course, steps, alloc, system) {
@@ -116,6 +120,34 @@ pub fn search_by<S: Steps>(
         }),
         Err(NoMemory) => Err(WalkFault::NoMemory),
     }
+}
+
+/// The same as `search`, by the steps that are given. It moves dictionaries by them alone.
+pub fn search_by<S: Steps>(
+    steps: &mut S,
+    alloc: Global,
+    system: &RowSystem,
+    work: u64,
+) -> Result<Answer, WalkFault>
+    ensures search { SearchGives system.now work result }
+    ensures fits { IfOk result (λ a. VerdictFits system.now.base (length system.now.quantities) (length system.now.pairs) a.verdict) }
+{
+    search_on(steps, alloc, system, Budget::new(work), 0)
+}
+
+/// Searches a row system as `search` does, on a budget of which others may have taken units, after so many nodes. The answer's
+/// work and nodes, and the numbers of a fault, count those of the others too.
+pub fn search_from(
+    alloc: Global,
+    system: &RowSystem,
+    budget: Budget,
+    nodes: u64,
+) -> Result<Answer, WalkFault>
+    requires { nodes ≤ budget.used }
+    ensures search { SearchFromGives system.now budget.limit (units_left budget) nodes result }
+    ensures fits { IfOk result (λ a. VerdictFits system.now.base (length system.now.quantities) (length system.now.pairs) a.verdict) }
+{
+    search_on(&mut FaceSteps, alloc, system, budget, nodes)
 }
 
 /// Searches a row system by branching on its pairs, with so many units of work. A node takes one unit when it is opened, and each pivot one.

@@ -1,11 +1,10 @@
-use Rattle.std.proofs.Common.{◌≡◌, sym, ap, subst, ◌∙◌}
+use Rattle.std.proofs.Common.{◌≡◌, sym, ap, ◌∙◌}
 use Rattle.emp_dict.specs.Dicts.{dictionary_of}
-use Rattle.emp_step.specs.Levels.{IsLevel}
 use Rattle.emp_step.specs.Steps.{turn, repeated}
 use Rattle.emp_step.proofs.Repeats.{repeated_over, repeated_more}
 use Rattle.emp_face.specs.Budgets.{units_left}
 use Rattle.emp_face.specs.Runs.{look_of, looks}
-use Rattle.emp_face.proofs.Goings.{looked_fits, going_on, going_level, marks_on, turn_failed, if_failed}
+use Rattle.emp_face.proofs.Goings.{looked_fits, going_on, marks_on}
 use Rattle.emp_face.proofs.run.run.Goals as goal
 
 pub returns-in-Over-clause-step : goal.returns-in-Over-clause-step
@@ -40,11 +39,3 @@ loop-outcome-preserved c =
       limit = c.in_ok-turn-in-Turn.ensures.limit ∙ i.limit;
       marks = marks_on d e r j g.0 ∙ i.marks;
     }
-
-pub returns-in_err-turn-in-Turn-clause-level : goal.returns-in_err-turn-in-Turn-clause-level
-returns-in_err-turn-in-Turn-clause-level c =
-    let d = dictionary_of c.loop-outcome.dict in
-    let e = dictionary_of c.turn.new.dict in
-    let h : looks c.args.task (dictionary_of c.loop-outcome.dict) ≡ turn c.in-Turn.row c.in-Turn.column = sym c.look.ensures ∙ ap look_of c.in-Turn.is in
-    let same : dictionary_of c.turn.new.dict ≡ dictionary_of c.loop-outcome.dict = turn_failed c.in-Turn.row c.in-Turn.column d e (units_left c.loop-outcome.budget) (units_left c.turn.new.budget) c.in_err-turn-in-Turn.field-0.0 c.in_err-turn-in-Turn.ensures.turn in
-    if_failed (IsLevel e) c.from_residual.result (subst (λ x. IsLevel x) (sym same) (going_level c.args.task d c.in-Turn.row c.in-Turn.column c.loop-outcome.invariant.going h))

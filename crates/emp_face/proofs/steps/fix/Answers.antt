@@ -5,9 +5,15 @@ use Rattle.emp_step.specs.Levels.{IsLevel}
 use Rattle.emp_step.specs.Steps.{with_mark}
 use Rattle.emp_step.proofs.Whole.{fix_level}
 use Rattle.emp_face.specs.Budgets.{units_left}
+use Rattle.emp_face.proofs.Goings.{fault_level}
 use Rattle.emp_face.proofs.steps.fix.Goals as goal
 
 pub returns-clause-level : goal.returns-clause-level
 returns-clause-level c =
     let left = fix_level (units_left c.args.budget.now) c.args.k (dictionary_of c.args.dict.now) c.args.dict.now.sound c.requires.level c.requires.number c.requires.free in
     subst (λ x. IsLevel x) (ap (λ s. (with_mark c.args.k Fixed s).dictionary) c.in_ok-outcome.ensures.step ∙ sym c.mark_held.ensures) left.1
+
+pub returns-in_err-outcome-clause-level : goal.returns-in_err-outcome-clause-level
+returns-in_err-outcome-clause-level c =
+    let left = fix_level (units_left c.args.budget.now) c.args.k (dictionary_of c.args.dict.now) c.args.dict.now.sound c.requires.level c.requires.number c.requires.free in
+    fault_level c.args.k Fixed _ (dictionary_of c.run.new.dict) (units_left c.run.new.budget) c.in_err-outcome.field-0.0 c.in_err-outcome.ensures.step left.1
