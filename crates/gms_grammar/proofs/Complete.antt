@@ -4,8 +4,11 @@ use Rattle.std.proofs.lemmas.List.{map-append}
 use Rattle.emp_num.specs.declared.frac.Frac.{Frac}
 use Rattle.emp_ast.specs.declared.model.Sense.{Sense}
 use Rattle.emp_ast.specs.declared.model.Sense.TheVariants.{Min, Max}
+use Rattle.gms_grammar.specs.declared.kind.Kind.{Kind}
+use Rattle.gms_grammar.specs.declared.kind.Kind.TheVariants.{Agents, Matches}
 use Rattle.gms_grammar.specs.declared.lexeme.Word.{Word}
 use Rattle.gms_grammar.specs.declared.lexeme.Sign.{Sign}
+use Rattle.gms_grammar.specs.declared.lexeme.Scale.TheVariants.{Over}
 use Rattle.gms_grammar.specs.declared.lexeme.Domain.TheVariants.{Free}
 use Rattle.gms_grammar.specs.declared.lexeme.Sort.{Sort}
 use Rattle.gms_grammar.specs.declared.lexeme.Sort.TheVariants.{Name, Numeral, Text, Semicolon, Comma, Sign as Signed, Scale as Scaled, Raise, Open}
@@ -13,16 +16,16 @@ use Rattle.gms_grammar.specs.declared.lexeme.Lexeme.{Lexeme}
 use Rattle.gms_grammar.specs.declared.limit.Limit.{Limit}
 use Rattle.gms_grammar.specs.declared.limit.Limit.TheVariants.{At, Above}
 use Rattle.gms_grammar.specs.declared.item.Item.{Item}
-use Rattle.gms_grammar.specs.declared.item.Item.TheVariants.{Begins, Defines, Relates, Ends, Number, Name as NameItem, Enters, Lists, Applies, Groups, Raises, Signs, Joins, Sets, Model as ModelItem, Solves, Aims}
+use Rattle.gms_grammar.specs.declared.item.Item.TheVariants.{Begins, Defines, Relates, Ends, Number, Name as NameItem, Enters, Lists, Applies, Groups, Raises, Signs, Joins, Sets, Model as ModelItem, Match as MatchItem, Solves, Aims}
 use Rattle.gms_grammar.specs.declared.symbol.Declares.{Declares}
 use Rattle.gms_grammar.specs.declared.symbol.Declares.TheVariants.{Variables as ForVariables, Equations as ForEquations}
 use Rattle.gms_grammar.specs.declared.symbol.Want.{Want}
-use Rattle.gms_grammar.specs.declared.symbol.Want.TheVariants.{Variables as WantVariables, Equals as WantEquals, Slash as WantSlash, Using as WantUsing, Emp as WantEmp, Semicolon as WantSemicolon}
+use Rattle.gms_grammar.specs.declared.symbol.Want.TheVariants.{Variables as WantVariables, Equals as WantEquals, Slash as WantSlash, Using as WantUsing, Emp as WantEmp, Mcp as WantMcp, Dot as WantDot, Semicolon as WantSemicolon}
 use Rattle.gms_grammar.specs.declared.symbol.Symbol.{Symbol}
-use Rattle.gms_grammar.specs.declared.symbol.Symbol.TheVariants.{File, Semicolons, Single, Write, Names, OptionalText, MoreNames, AfterName, Attribute, Value, SignedValue, Comparison, ModelName, Everything, SolveName, Goal, Aim, Sum as SumSymbol, Factor as FactorSymbol, AfterLeaf, MorePower, Exponent, MoreFactors, MoreTerms, MoreArguments, Closing}
+use Rattle.gms_grammar.specs.declared.symbol.Symbol.TheVariants.{File, Semicolons, Single, Write, Names, OptionalText, MoreNames, AfterName, Attribute, Value, SignedValue, Comparison, ModelName, Everything, MatchEquation, MatchVariable, MoreMatches, SolveName, Goal, Aim, Sum as SumSymbol, Factor as FactorSymbol, AfterLeaf, MorePower, Exponent, MoreFactors, MoreTerms, MoreArguments, Closing}
 use Rattle.gms_grammar.specs.declared.symbol.Next.TheVariants.{Nothing, One, Two, Three, Four}
 use Rattle.gms_grammar.specs.declared.symbol.Move.TheVariants.{Skip}
-use Rattle.gms_grammar.specs.Grammar.{Written, sum_operator, product_operator, signed_limit, Level, Arguments, Sum, Term, Factor, Primary, Stands, a_numeral, a_name, a_call, a_group, a_primary, a_power, a_factor, a_product, a_term, a_signed, a_sum, an_argument, arguments, Statement, IsEntry, bare, described, AreNames, first, next, next_behind_comma, IsUnsigned, finite, infinite, IsLimit, no_sign, with_sign, IsGoal, no_goal, least, greatest, IsStatement, is_empty, is_variables, is_domain, is_equations, is_definition, is_setting, is_model, IsSolve, is_solve, AreSemicolons, none, more, IsFile, last, then}
+use Rattle.gms_grammar.specs.Grammar.{Written, sum_operator, product_operator, signed_limit, Level, Arguments, Sum, Term, Factor, Primary, Stands, a_numeral, a_name, a_call, a_group, a_primary, a_power, a_factor, a_product, a_term, a_signed, a_sum, an_argument, arguments, Statement, IsEntry, bare, described, AreNames, first, next, next_behind_comma, IsUnsigned, finite, infinite, IsLimit, no_sign, with_sign, IsGoal, no_goal, least, greatest, AreMatches, one_match, more_matches, IsStatementOf, is_empty, is_variables, is_domain, is_equations, is_definition, is_setting, is_model, is_matched, IsSolveOf, is_solve, is_mcp, AreSemicolons, none, more, IsFileOf, last, then}
 use Rattle.gms_grammar.specs.Items.{written_items, goal_items, statement_items, items_of}
 use Rattle.gms_grammar.specs.Machine.{declared, wanted, single_move, after_leaf_move, more_power_move, more_factors_move, more_terms_move, optional_text_move, move}
 use Rattle.gms_grammar.proofs.Writing.{Writes, over, takes, skips}
@@ -157,6 +160,8 @@ single {want = WantEquals} e h = takes {item = None} {next = Nothing} (ap (λ q.
 single {want = WantSlash} e h = takes {item = None} {next = Nothing} (ap (λ q. single_move WantSlash q) e) h
 single {want = WantUsing} e h = takes {item = None} {next = Nothing} (ap (λ q. single_move WantUsing q) e) h
 single {want = WantEmp} e h = takes {item = None} {next = Nothing} (ap (λ q. single_move WantEmp q) e) h
+single {want = WantMcp} e h = takes {item = None} {next = Nothing} (ap (λ q. single_move WantMcp q) e) h
+single {want = WantDot} e h = takes {item = None} {next = Nothing} (ap (λ q. single_move WantDot q) e) h
 single {want = WantSemicolon} e h = takes {item = None} {next = Nothing} (ap (λ q. single_move WantSemicolon q) e) h
 
 -- ---- lists of names
@@ -225,38 +230,55 @@ goal_read z (least g t g_is named) e h = takes {item = None} {next = Two (Aim Mi
 goal_read z (greatest g t g_is named) e h = takes {item = None} {next = Two (Aim Max) (Single WantSemicolon)} (ap (λ q. move Goal q g) g_is) (takes {item = Some (Aims Max t)} {next = Nothing} (ap (λ q. move (Aim Max) q t) named.1) (single e h))
 
 -- in front of statements there is a lexeme at which the item is written
-written_first : {item : Item} {ts : List Lexeme} {w : List Item} → Writes (File ∷ []) ts w → Writes (Write item ∷ File ∷ []) ts (item ∷ w)
+written_first : {kind : Kind} {item : Item} {ts : List Lexeme} {w : List Item} → Writes (File kind ∷ []) ts w → Writes (Write item ∷ File kind ∷ []) ts (item ∷ w)
 written_first (takes e h) = skips refl (takes e h)
 written_first (skips e h) = skips refl (skips e h)
 
-statement_read : {ts : List Lexeme} {st : Statement} {rest : List Lexeme} {w : List Item} → IsStatement ts st → Writes (File ∷ []) rest w → Writes (File ∷ []) (ts ++ rest) (statement_items st ++ w)
-statement_read (is_empty z e) h = takes {item = None} {next = One File} (ap (λ q. move File q z) e) h
-statement_read (is_variables v z ts names v_is are z_is) h =
-    simp append_assoc (takes {item = Some (Begins Free v)} {next = Two (Names (ForVariables Free)) File} (ap (λ q. move File q v) v_is) (list_read z are z_is h))
-statement_read (is_domain d v z k ts names d_is v_is are z_is) h =
-    simp append_assoc (takes {item = Some (Begins k d)} {next = Three (Single WantVariables) (Names (ForVariables k)) File} (ap (λ q. move File q d) d_is) (single v_is (list_read z are z_is h)))
-statement_read (is_equations v z ts names v_is are z_is) h =
-    simp append_assoc (takes {item = None} {next = Two (Names ForEquations) File} (ap (λ q. move File q v) v_is) (list_read z are z_is h))
-statement_read {rest = rest} {w = w} (is_definition t d r z k ts us left right named d_is left_is r_is right_is z_is) h =
-    let ends : Writes (Single WantSemicolon ∷ Write Ends ∷ File ∷ []) (z ∷ rest) (Ends ∷ w) = single z_is (written_first h) in
-    let tail : Writes (Comparison ∷ File ∷ []) (r ∷ (us ++ z ∷ rest)) (Relates k ∷ (written_items right ++ Ends ∷ w)) = takes {item = Some (Relates k)} {next = Three SumSymbol (Single WantSemicolon) (Write Ends)} (ap (λ q. move Comparison q r) r_is) (expression z right_is (ap no_term z_is) ends) in
-    simp append_assoc (takes {item = None} {next = Two (AfterName t) File} (ap (λ q. move File q t) named.1) (takes {item = Some (Defines t)} {next = Two SumSymbol Comparison} (ap (λ q. move (AfterName t) q d) d_is) (expression r left_is (ap no_term r_is) tail)))
-statement_read (is_setting t d a q z ts limit named d_is attribute q_is limit_is z_is) h =
-    simp append_assoc (takes {item = None} {next = Two (AfterName t) File} (ap (λ q. move File q t) named.1) (takes {item = None} {next = One (Attribute t)} (ap (λ q. move (AfterName t) q d) d_is) (takes {item = None} {next = Two (Single WantEquals) (Value t a)} (ap (λ q. move (Attribute t) q a) attribute.1) (single q_is (limit_read z limit_is z_is h)))))
-statement_read {rest = rest} {w = w} (is_model m a b c z ts t m_is entry a_is b_is c_is z_is) h =
-    let ends : Writes (Everything ∷ File ∷ []) (b ∷ c ∷ z ∷ rest) w = takes {item = None} {next = Two (Single WantSlash) (Single WantSemicolon)} (ap (λ q. move Everything q b) b_is) (single c_is (single z_is h)) in
-    let tail : Writes (Single WantSlash ∷ Everything ∷ File ∷ []) (a ∷ b ∷ c ∷ z ∷ rest) w = single a_is ends in
-    simp append_assoc (takes {item = None} {next = Two ModelName File} (ap (λ q. move File q m) m_is)
-    (entry_read a entry (λ k us e g. takes {item = Some (ModelItem t)} {next = Three OptionalText (Single WantSlash) Everything} (ap (λ q. move ModelName q t) e) g) (ap no_text a_is) tail))
+-- matches, and the `/ ;` behind them
+matches_read : (c z : Lexeme) {ts rest : List Lexeme} {qs : List (Lexeme × Lexeme)} {s : List Symbol} {w : List Item} → AreMatches ts qs → c.sort ≡ Scaled Over → z.sort ≡ Semicolon → Writes s rest w → Writes (MatchEquation ∷ s) (ts ++ c ∷ z ∷ rest) (map (λ q. MatchItem q.0 q.1) qs ++ w)
+matches_read c z (one_match e d v e_is d_is v_is) c_is z_is h =
+    takes {item = None} {next = Two (Single WantDot) (MatchVariable e)} (ap (λ q. move MatchEquation q e) e_is.1)
+    (single d_is (takes {item = Some (MatchItem e v)} {next = One MoreMatches} (ap (λ q. move (MatchVariable e) q v) v_is.1)
+    (takes {item = None} {next = One (Single WantSemicolon)} (ap (λ q. move MoreMatches q c) c_is) (single z_is h))))
+matches_read c z (more_matches e d v b ts qs e_is d_is v_is b_is are) c_is z_is h =
+    takes {item = None} {next = Two (Single WantDot) (MatchVariable e)} (ap (λ q. move MatchEquation q e) e_is.1)
+    (single d_is (takes {item = Some (MatchItem e v)} {next = One MoreMatches} (ap (λ q. move (MatchVariable e) q v) v_is.1)
+    (takes {item = None} {next = One MatchEquation} (ap (λ q. move MoreMatches q b) b_is) (matches_read c z are c_is z_is h))))
 
-solve_read : {ts : List Lexeme} {st : Statement} {rest : List Lexeme} {w : List Item} → IsSolve ts st → Writes (Semicolons ∷ []) rest w → Writes (File ∷ []) (ts ++ rest) (statement_items st ++ w)
+statement_read : {kind : Kind} {ts : List Lexeme} {st : Statement} {rest : List Lexeme} {w : List Item} → IsStatementOf kind ts st → Writes (File kind ∷ []) rest w → Writes (File kind ∷ []) (ts ++ rest) (statement_items st ++ w)
+statement_read {kind = kind} (is_empty z e) h = takes {item = None} {next = One (File kind)} (ap (λ q. move (File kind) q z) e) h
+statement_read {kind = kind} (is_variables v z ts names v_is are z_is) h =
+    simp append_assoc (takes {item = Some (Begins Free v)} {next = Two (Names (ForVariables Free)) (File kind)} (ap (λ q. move (File kind) q v) v_is) (list_read z are z_is h))
+statement_read {kind = kind} (is_domain d v z k ts names d_is v_is are z_is) h =
+    simp append_assoc (takes {item = Some (Begins k d)} {next = Three (Single WantVariables) (Names (ForVariables k)) (File kind)} (ap (λ q. move (File kind) q d) d_is) (single v_is (list_read z are z_is h)))
+statement_read {kind = kind} (is_equations v z ts names v_is are z_is) h =
+    simp append_assoc (takes {item = None} {next = Two (Names ForEquations) (File kind)} (ap (λ q. move (File kind) q v) v_is) (list_read z are z_is h))
+statement_read {kind = kind} {rest = rest} {w = w} (is_definition t d r z k ts us left right named d_is left_is r_is right_is z_is) h =
+    let ends : Writes (Single WantSemicolon ∷ Write Ends ∷ File kind ∷ []) (z ∷ rest) (Ends ∷ w) = single z_is (written_first h) in
+    let tail : Writes (Comparison ∷ File kind ∷ []) (r ∷ (us ++ z ∷ rest)) (Relates k ∷ (written_items right ++ Ends ∷ w)) = takes {item = Some (Relates k)} {next = Three SumSymbol (Single WantSemicolon) (Write Ends)} (ap (λ q. move Comparison q r) r_is) (expression z right_is (ap no_term z_is) ends) in
+    simp append_assoc (takes {item = None} {next = Two (AfterName t) (File kind)} (ap (λ q. move (File kind) q t) named.1) (takes {item = Some (Defines t)} {next = Two SumSymbol Comparison} (ap (λ q. move (AfterName t) q d) d_is) (expression r left_is (ap no_term r_is) tail)))
+statement_read {kind = kind} (is_setting t d a q z ts limit named d_is attribute q_is limit_is z_is) h =
+    simp append_assoc (takes {item = None} {next = Two (AfterName t) (File kind)} (ap (λ q. move (File kind) q t) named.1) (takes {item = None} {next = One (Attribute t)} (ap (λ q. move (AfterName t) q d) d_is) (takes {item = None} {next = Two (Single WantEquals) (Value t a)} (ap (λ q. move (Attribute t) q a) attribute.1) (single q_is (limit_read z limit_is z_is h)))))
+statement_read {rest = rest} {w = w} (is_model m a b c z ts t m_is entry a_is b_is c_is z_is) h =
+    let ends : Writes (Everything ∷ File Agents ∷ []) (b ∷ c ∷ z ∷ rest) w = takes {item = None} {next = Two (Single WantSlash) (Single WantSemicolon)} (ap (λ q. move Everything q b) b_is) (single c_is (single z_is h)) in
+    let tail : Writes (Single WantSlash ∷ Everything ∷ File Agents ∷ []) (a ∷ b ∷ c ∷ z ∷ rest) w = single a_is ends in
+    simp append_assoc (takes {item = None} {next = Two (ModelName Agents) (File Agents)} (ap (λ q. move (File Agents) q m) m_is)
+    (entry_read a entry (λ k us e g. takes {item = Some (ModelItem t)} {next = Three OptionalText (Single WantSlash) Everything} (ap (λ q. move (ModelName Agents) q t) e) g) (ap no_text a_is) tail))
+statement_read {rest = rest} {w = w} (is_matched m a c z ts us t qs m_is entry a_is are c_is z_is) h =
+    let tail : Writes (Single WantSlash ∷ MatchEquation ∷ File Matches ∷ []) (a ∷ (us ++ c ∷ z ∷ rest)) (map (λ q. MatchItem q.0 q.1) qs ++ w) = single a_is (matches_read c z are c_is z_is h) in
+    simp append_assoc (takes {item = None} {next = Two (ModelName Matches) (File Matches)} (ap (λ q. move (File Matches) q m) m_is)
+    (entry_read a entry (λ k us e g. takes {item = Some (ModelItem t)} {next = Three OptionalText (Single WantSlash) MatchEquation} (ap (λ q. move (ModelName Matches) q t) e) g) (ap no_text a_is) tail))
+
+solve_read : {kind : Kind} {ts : List Lexeme} {st : Statement} {rest : List Lexeme} {w : List Item} → IsSolveOf kind ts st → Writes (Semicolons ∷ []) rest w → Writes (File kind ∷ []) (ts ++ rest) (statement_items st ++ w)
 solve_read (is_solve k t u e z ts goal k_is named u_is e_is goal_is z_is) h =
-    simp append_assoc (takes {item = None} {next = Two SolveName Semicolons} (ap (λ q. move File q k) k_is) (takes {item = Some (Solves t)} {next = Three (Single WantUsing) (Single WantEmp) Goal} (ap (λ q. move SolveName q t) named.1) (single u_is (single e_is (goal_read z goal_is z_is h)))))
+    simp append_assoc (takes {item = None} {next = Two (SolveName Agents) Semicolons} (ap (λ q. move (File Agents) q k) k_is) (takes {item = Some (Solves t)} {next = Three (Single WantUsing) (Single WantEmp) Goal} (ap (λ q. move (SolveName Agents) q t) named.1) (single u_is (single e_is (goal_read z goal_is z_is h)))))
+solve_read (is_mcp k t u e z k_is named u_is e_is z_is) h =
+    takes {item = None} {next = Two (SolveName Matches) Semicolons} (ap (λ q. move (File Matches) q k) k_is) (takes {item = Some (Solves t)} {next = Three (Single WantUsing) (Single WantMcp) (Single WantSemicolon)} (ap (λ q. move (SolveName Matches) q t) named.1) (single u_is (single e_is (single z_is h))))
 
 semicolons_read : {ts : List Lexeme} → AreSemicolons ts → Writes (Semicolons ∷ []) ts []
 semicolons_read none = over
 semicolons_read (more z ts e h) = takes {item = None} {next = One Semicolons} (ap (λ q. move Semicolons q z) e) (semicolons_read h)
 
-pub file_read : {ts : List Lexeme} {ss : List Statement} → IsFile ts ss → Writes (File ∷ []) ts (items_of ss)
+pub file_read : {kind : Kind} {ts : List Lexeme} {ss : List Statement} → IsFileOf kind ts ss → Writes (File kind ∷ []) ts (items_of ss)
 file_read (last ts zs s h k) = solve_read h (semicolons_read k)
 file_read (then ts us s ss h k) = statement_read h (file_read k)

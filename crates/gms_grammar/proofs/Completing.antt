@@ -4,6 +4,8 @@ use Rattle.std.specs.Option.{option_to_list}
 use Rattle.emp_num.specs.Whole.{whole}
 use Rattle.emp_ast.specs.declared.model.Sense.{Sense}
 use Rattle.emp_ast.specs.declared.model.Relation.TheVariants.{Equal}
+use Rattle.gms_grammar.specs.declared.kind.Kind.{Kind}
+use Rattle.gms_grammar.specs.declared.kind.Kind.TheVariants.{Agents, Matches}
 use Rattle.gms_grammar.specs.declared.lexeme.Word.TheVariants.{All, Infinity, Other, Minimizing, Maximizing}
 use Rattle.gms_grammar.specs.declared.lexeme.Scale.TheVariants.{Over}
 use Rattle.gms_grammar.specs.declared.lexeme.Sign.{Sign}
@@ -12,18 +14,18 @@ use Rattle.gms_grammar.specs.declared.lexeme.Sort.TheVariants.{Name, Numeral, Te
 use Rattle.gms_grammar.specs.declared.lexeme.Lexeme.{Lexeme}
 use Rattle.gms_grammar.specs.declared.limit.Limit.TheVariants.{At}
 use Rattle.gms_grammar.specs.declared.item.Item.{Item}
-use Rattle.gms_grammar.specs.declared.item.Item.TheVariants.{Relates, Ends, Number, Name as NameItem, Applies, Groups, Raises, Sets, Model as ModelItem, Solves, Aims}
+use Rattle.gms_grammar.specs.declared.item.Item.TheVariants.{Relates, Ends, Number, Name as NameItem, Applies, Groups, Raises, Sets, Model as ModelItem, Match as MatchItem, Solves, Aims}
 use Rattle.gms_grammar.specs.declared.symbol.Declares.{Declares}
 use Rattle.gms_grammar.specs.declared.symbol.Want.{Want}
-use Rattle.gms_grammar.specs.declared.symbol.Want.TheVariants.{Variables as WantVariables, Equals as WantEquals, Slash as WantSlash, Using as WantUsing, Emp as WantEmp, Semicolon as WantSemicolon}
+use Rattle.gms_grammar.specs.declared.symbol.Want.TheVariants.{Variables as WantVariables, Equals as WantEquals, Slash as WantSlash, Using as WantUsing, Emp as WantEmp, Mcp as WantMcp, Dot as WantDot, Semicolon as WantSemicolon}
 use Rattle.gms_grammar.specs.declared.symbol.Symbol.{Symbol}
-use Rattle.gms_grammar.specs.declared.symbol.Symbol.TheVariants.{File, Semicolons, Single, Write, Names, OptionalText, MoreNames, AfterName, Attribute, Value, SignedValue, Comparison, ModelName, Everything, SolveName, Goal, Aim, Sum as SumSymbol, Factor as FactorSymbol, AfterLeaf, MorePower, Exponent, MoreFactors, MoreTerms, MoreArguments, Closing}
+use Rattle.gms_grammar.specs.declared.symbol.Symbol.TheVariants.{File, Semicolons, Single, Write, Names, OptionalText, MoreNames, AfterName, Attribute, Value, SignedValue, Comparison, ModelName, Everything, MatchEquation, MatchVariable, MoreMatches, SolveName, Goal, Aim, Sum as SumSymbol, Factor as FactorSymbol, AfterLeaf, MorePower, Exponent, MoreFactors, MoreTerms, MoreArguments, Closing}
 use Rattle.gms_grammar.specs.declared.symbol.Next.{Next}
 use Rattle.gms_grammar.specs.declared.symbol.Next.TheVariants.{Nothing, One, Two, Three}
 use Rattle.gms_grammar.specs.declared.symbol.Move.{Move}
 use Rattle.gms_grammar.specs.declared.symbol.Move.TheVariants.{Fail, Skip, Take}
 use Rattle.gms_grammar.specs.Grammar.{signed_limit}
-use Rattle.gms_grammar.specs.Machine.{declared, wanted, is_wanted, after_leaf_move, more_power_move, more_factors_move, more_terms_move, optional_text_move, move, symbols, State, add, by_move, step}
+use Rattle.gms_grammar.specs.Machine.{declared, wanted, is_wanted, parts_of, solver_of, ending_of, after_leaf_move, more_power_move, more_factors_move, more_terms_move, optional_text_move, move, symbols, State, add, by_move, step}
 use Rattle.gms_grammar.proofs.Writing.{Writes, over, takes, skips}
 
 -- ---- stacks that the machine reaches
@@ -31,6 +33,7 @@ use Rattle.gms_grammar.proofs.Writing.{Writes, over, takes, skips}
 abbrev pub NoSlash : List Symbol → Type 0
 NoSlash [] = Unit {0}
 NoSlash (Single WantSlash ∷ s) = ⊥
+NoSlash (MoreMatches ∷ s) = ⊥
 NoSlash (Write item ∷ s) = NoSlash s
 NoSlash (OptionalText ∷ s) = NoSlash s
 NoSlash (AfterLeaf n ∷ s) = NoSlash s
@@ -42,7 +45,7 @@ NoSlash (x ∷ s) = Unit {0}
 -- at the bottom stands the end of a text, and behind an expression no `/` that is no operator
 abbrev pub Settled : List Symbol → Type 0
 Settled [] = ⊥
-Settled (File ∷ s) = s ≡ []
+Settled (File k ∷ s) = s ≡ []
 Settled (Semicolons ∷ s) = s ≡ []
 Settled (SumSymbol ∷ s) = NoSlash s × Settled s
 Settled (MoreFactors ∷ s) = NoSlash s × Settled s
@@ -60,14 +63,14 @@ single_settled false s h = tt
 
 -- each move keeps it
 settled_by : (x : Symbol) (q : Sort) (t : Lexeme) (s : List Symbol) → Settled (x ∷ s) → SettledBy (move x q t) s
-settled_by File Semicolon t s h = h
-settled_by File (DomainWord k) t s h = h
-settled_by File Variables t s h = h
-settled_by File Equations t s h = h
-settled_by File Model t s h = h
-settled_by File Solve t s h = h
-settled_by File (Name w) t s h = h
-settled_by File q t s h = tt
+settled_by (File kind) Semicolon t s h = h
+settled_by (File kind) (DomainWord k) t s h = h
+settled_by (File kind) Variables t s h = h
+settled_by (File kind) Equations t s h = h
+settled_by (File kind) Model t s h = h
+settled_by (File kind) Solve t s h = h
+settled_by (File kind) (Name w) t s h = h
+settled_by (File kind) q t s h = tt
 settled_by Semicolons Semicolon t s h = h
 settled_by Semicolons q t s h = tt
 settled_by (Single want) q t s h = single_settled (is_wanted want q) s h
@@ -94,12 +97,21 @@ settled_by (SignedValue n a k) (Name Infinity) t s h = h
 settled_by (SignedValue n a k) q t s h = tt
 settled_by Comparison (Related r) t s h = (tt, h)
 settled_by Comparison q t s h = tt
-settled_by ModelName (Name w) t s h = h
-settled_by ModelName q t s h = tt
+settled_by (ModelName Agents) (Name w) t s h = h
+settled_by (ModelName Matches) (Name w) t s h = h
+settled_by (ModelName kind) q t s h = tt
 settled_by Everything (Name All) t s h = h
 settled_by Everything q t s h = tt
-settled_by SolveName (Name w) t s h = h
-settled_by SolveName q t s h = tt
+settled_by MatchEquation (Name w) t s h = h
+settled_by MatchEquation q t s h = tt
+settled_by (MatchVariable e) (Name w) t s h = h
+settled_by (MatchVariable e) q t s h = tt
+settled_by MoreMatches Comma t s h = h
+settled_by MoreMatches (Scaled Over) t s h = h
+settled_by MoreMatches q t s h = tt
+settled_by (SolveName Agents) (Name w) t s h = h
+settled_by (SolveName Matches) (Name w) t s h = h
+settled_by (SolveName kind) q t s h = tt
 settled_by Goal (Name Minimizing) t s h = h
 settled_by Goal (Name Maximizing) t s h = h
 settled_by Goal Semicolon t s h = h
@@ -208,6 +220,8 @@ module _ (s : List Symbol) (r : Ending s) where
   end_single WantSlash = front (Single WantSlash) s (Scaled Over) None Nothing refl refl (λ h. absurd h) r
   end_single WantUsing = front (Single WantUsing) s (wanted WantUsing) None Nothing refl refl (λ _. refl) r
   end_single WantEmp = front (Single WantEmp) s (wanted WantEmp) None Nothing refl refl (λ _. refl) r
+  end_single WantMcp = front (Single WantMcp) s (wanted WantMcp) None Nothing refl refl (λ _. refl) r
+  end_single WantDot = front (Single WantDot) s Dot None Nothing refl refl (λ _. refl) r
   end_single WantSemicolon = front (Single WantSemicolon) s Semicolon None Nothing refl refl (λ _. refl) r
 
   end_write : (item : Item) → Ending (Write item ∷ s)
@@ -258,10 +272,12 @@ module _ (s : List Symbol) (r : Ending s) where
   end_everything : Ending (Everything ∷ s)
   end_everything = front Everything s (Name All) None (Two (Single WantSlash) (Single WantSemicolon)) refl refl (λ _. refl) (end_single (Single WantSemicolon ∷ s) (end_single s r WantSemicolon) WantSlash)
 
-  end_solve_name : Ending (SolveName ∷ s)
-  end_solve_name =
-      front SolveName s (Name Other) (Some (Solves (lexeme (Name Other)))) (Three (Single WantUsing) (Single WantEmp) Goal) refl refl (λ _. refl)
-      (end_single (Single WantEmp ∷ Goal ∷ s) (end_single (Goal ∷ s) (end_goal s r) WantEmp) WantUsing)
+  end_more_matches : Ending (MoreMatches ∷ s)
+  end_more_matches = front MoreMatches s (Scaled Over) None (One (Single WantSemicolon)) refl refl (λ h. absurd h) (end_single s r WantSemicolon)
+
+  end_ending : (kind : Kind) → Ending (ending_of kind ∷ s)
+  end_ending Agents = end_goal s r
+  end_ending Matches = end_single s r WantSemicolon
 
   end_closing : Ending (Closing ∷ s)
   end_closing = front Closing s Close (Some Groups) (One MorePower) refl refl (λ _. refl) (end_power s r)
@@ -284,20 +300,35 @@ module _ (s : List Symbol) (r : Ending s) where
       front Comparison s (Related Equal) (Some (Relates Equal)) (Three SumSymbol (Single WantSemicolon) (Write Ends)) refl refl (λ _. refl)
       (end_sum (Single WantSemicolon ∷ Write Ends ∷ s) (end_single (Write Ends ∷ s) (end_write s r Ends) WantSemicolon) tt)
 
-  end_model_name : Ending (ModelName ∷ s)
-  end_model_name =
-      front ModelName s (Name Other) (Some (ModelItem (lexeme (Name Other)))) (Three OptionalText (Single WantSlash) Everything) refl refl (λ _. refl)
-      (end_text (Single WantSlash ∷ Everything ∷ s) (end_single (Everything ∷ s) (end_everything s r) WantSlash))
+  end_match_variable : (e : Lexeme) → Ending (MatchVariable e ∷ s)
+  end_match_variable e = front (MatchVariable e) s (Name Other) (Some (MatchItem e (lexeme (Name Other)))) (One MoreMatches) refl refl (λ _. refl) (end_more_matches s r)
+
+  end_match_equation : Ending (MatchEquation ∷ s)
+  end_match_equation = front MatchEquation s (Name Other) None (Two (Single WantDot) (MatchVariable (lexeme (Name Other)))) refl refl (λ _. refl) (end_single (MatchVariable (lexeme (Name Other)) ∷ s) (end_match_variable (lexeme (Name Other))) WantDot)
+
+  end_parts : (kind : Kind) → Ending (parts_of kind ∷ s)
+  end_parts Agents = end_everything s r
+  end_parts Matches = end_match_equation
+
+  end_model_name : (kind : Kind) → Ending (ModelName kind ∷ s)
+  end_model_name kind =
+      front (ModelName kind) s (Name Other) (Some (ModelItem (lexeme (Name Other)))) (Three OptionalText (Single WantSlash) (parts_of kind)) refl refl (λ _. refl)
+      (end_text (Single WantSlash ∷ parts_of kind ∷ s) (end_single (parts_of kind ∷ s) (end_parts kind) WantSlash))
+
+  end_solve_name : (kind : Kind) → Ending (SolveName kind ∷ s)
+  end_solve_name kind =
+      front (SolveName kind) s (Name Other) (Some (Solves (lexeme (Name Other)))) (Three (Single WantUsing) (Single (solver_of kind)) (ending_of kind)) refl refl (λ _. refl)
+      (end_single (Single (solver_of kind) ∷ ending_of kind ∷ s) (end_single (ending_of kind ∷ s) (end_ending s r kind) (solver_of kind)) WantUsing)
 
 end_semicolons : Ending (Semicolons ∷ [])
 end_semicolons = record { first = lexeme Semicolon; more = []; written = []; writes = takes {item = None} {next = One Semicolons} refl over; quiet = refl; still = λ _. refl }
 
-end_file : Ending (File ∷ [])
-end_file = front File [] Solve None (Two SolveName Semicolons) refl refl (λ _. refl) (end_solve_name (Semicolons ∷ []) end_semicolons)
+end_file : (kind : Kind) → Ending (File kind ∷ [])
+end_file kind = front (File kind) [] Solve None (Two (SolveName kind) Semicolons) refl refl (λ _. refl) (end_solve_name (Semicolons ∷ []) end_semicolons kind)
 
 pub completes : (s : List Symbol) → Settled s → Ending s
 completes [] h = absurd h
-completes (File ∷ s) h = subst (λ r. Ending (File ∷ r)) (sym h) end_file
+completes (File kind ∷ s) h = subst (λ r. Ending (File kind ∷ r)) (sym h) (end_file kind)
 completes (Semicolons ∷ s) h = subst (λ r. Ending (Semicolons ∷ r)) (sym h) end_semicolons
 completes (Single want ∷ s) h = end_single s (completes s h) want
 completes (Write item ∷ s) h = end_write s (completes s h) item
@@ -309,9 +340,12 @@ completes (Attribute n ∷ s) h = end_attribute s (completes s h) n
 completes (Value n a ∷ s) h = end_value s (completes s h) n a
 completes (SignedValue n a k ∷ s) h = end_signed_value s (completes s h) n a k
 completes (Comparison ∷ s) h = end_comparison s (completes s h)
-completes (ModelName ∷ s) h = end_model_name s (completes s h)
+completes (ModelName kind ∷ s) h = end_model_name s (completes s h) kind
 completes (Everything ∷ s) h = end_everything s (completes s h)
-completes (SolveName ∷ s) h = end_solve_name s (completes s h)
+completes (MatchEquation ∷ s) h = end_match_equation s (completes s h)
+completes (MatchVariable e ∷ s) h = end_match_variable s (completes s h) e
+completes (MoreMatches ∷ s) h = end_more_matches s (completes s h)
+completes (SolveName kind ∷ s) h = end_solve_name s (completes s h) kind
 completes (Goal ∷ s) h = end_goal s (completes s h)
 completes (Aim m ∷ s) h = end_aim s (completes s h) m
 completes (SumSymbol ∷ s) h = end_sum s (completes s h.1) h.0

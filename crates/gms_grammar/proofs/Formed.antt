@@ -1,7 +1,8 @@
 -- Where arguments parted by a comma stand in what the grammar gives: in functions alone.
 use Rattle.std.proofs.Common.{Bool, true, false, List, [], ◌∷◌}
+use Rattle.gms_grammar.specs.declared.kind.Kind.{Kind}
 use Rattle.gms_grammar.specs.declared.lexeme.Lexeme.{Lexeme}
-use Rattle.gms_grammar.specs.Grammar.{Written, numeral, name, call, listed, grouped, raised, signed, joined, Level, Arguments, Sum, Term, Factor, Primary, Stands, a_numeral, a_name, a_call, a_group, a_primary, a_power, a_factor, a_product, a_term, a_signed, a_sum, an_argument, arguments, Statement, empty, variables, equations, definition, setting, model, solve, IsStatement, is_empty, is_variables, is_domain, is_equations, is_definition, is_setting, is_model, IsSolve, is_solve, IsFile, last, then}
+use Rattle.gms_grammar.specs.Grammar.{Written, numeral, name, call, listed, grouped, raised, signed, joined, Level, Arguments, Sum, Term, Factor, Primary, Stands, a_numeral, a_name, a_call, a_group, a_primary, a_power, a_factor, a_product, a_term, a_signed, a_sum, an_argument, arguments, Statement, empty, variables, equations, definition, setting, model, matched, solve, IsStatementOf, is_empty, is_variables, is_domain, is_equations, is_definition, is_setting, is_model, is_matched, IsSolveOf, is_solve, is_mcp, IsFileOf, last, then}
 
 -- commas part arguments of functions alone, and of the whole where `many`
 abbrev pub IsFormed : Written → Bool → Type 0
@@ -54,13 +55,14 @@ IsFormedStatement (equations names) = Unit {0}
 IsFormedStatement (definition t left r right) = IsFormed left false × IsFormed right false
 IsFormedStatement (setting t a limit) = Unit {0}
 IsFormedStatement (model t) = Unit {0}
+IsFormedStatement (matched t qs) = Unit {0}
 IsFormedStatement (solve t goal) = Unit {0}
 
 abbrev pub AreFormed : List Statement → Type 0
 AreFormed [] = Unit {0}
 AreFormed (s ∷ ss) = IsFormedStatement s × AreFormed ss
 
-formed_statement : {ts : List Lexeme} {s : Statement} → IsStatement ts s → IsFormedStatement s
+formed_statement : {k : Kind} {ts : List Lexeme} {s : Statement} → IsStatementOf k ts s → IsFormedStatement s
 formed_statement (is_empty z e) = tt
 formed_statement (is_variables v z ts names a b c) = tt
 formed_statement (is_domain d v z k ts names a b c e) = tt
@@ -68,10 +70,12 @@ formed_statement (is_equations v z ts names a b c) = tt
 formed_statement (is_definition t d r z k ts us left right n e h f g i) = (formed_stands h, formed_stands g)
 formed_statement (is_setting t d a q z ts limit n e f g h i) = tt
 formed_statement (is_model m a b c z ts t e f g h i j) = tt
+formed_statement (is_matched m a c z ts us t qs e f g h i j) = tt
 
-formed_solve : {ts : List Lexeme} {s : Statement} → IsSolve ts s → IsFormedStatement s
+formed_solve : {k : Kind} {ts : List Lexeme} {s : Statement} → IsSolveOf k ts s → IsFormedStatement s
 formed_solve (is_solve k t u e z ts goal a b c d f g) = tt
+formed_solve (is_mcp k t u e z a b c d f) = tt
 
-pub formed_file : {ts : List Lexeme} {ss : List Statement} → IsFile ts ss → AreFormed ss
+pub formed_file : {k : Kind} {ts : List Lexeme} {ss : List Statement} → IsFileOf k ts ss → AreFormed ss
 formed_file (last ts zs s h z) = (formed_solve h, tt)
 formed_file (then ts us s ss h k) = (formed_statement h, formed_file k)

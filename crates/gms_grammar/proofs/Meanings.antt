@@ -6,7 +6,9 @@ use Rattle.emp_num.specs.declared.frac.Frac.{Frac}
 use Rattle.emp_ast.specs.declared.model.Sense.{Sense}
 use Rattle.emp_ast.specs.declared.model.Sense.TheVariants.{Min, Max}
 use Rattle.emp_ast.specs.declared.model.Relation.{Relation}
-use Rattle.gms_grammar.specs.declared.lexeme.Word.TheVariants.{All, Using, Emp, Minimizing, Maximizing, Infinity}
+use Rattle.gms_grammar.specs.declared.kind.Kind.{Kind}
+use Rattle.gms_grammar.specs.declared.kind.Kind.TheVariants.{Agents, Matches}
+use Rattle.gms_grammar.specs.declared.lexeme.Word.TheVariants.{All, Using, Emp, Mcp, Minimizing, Maximizing, Infinity}
 use Rattle.gms_grammar.specs.declared.lexeme.Domain.{Domain}
 use Rattle.gms_grammar.specs.declared.lexeme.Domain.TheVariants.{Free}
 use Rattle.gms_grammar.specs.declared.lexeme.Sign.{Sign}
@@ -17,20 +19,20 @@ use Rattle.gms_grammar.specs.declared.lexeme.Sort.TheVariants.{Name, Numeral, Te
 use Rattle.gms_grammar.specs.declared.lexeme.Lexeme.{Lexeme}
 use Rattle.gms_grammar.specs.declared.limit.Limit.{Limit}
 use Rattle.gms_grammar.specs.declared.item.Item.{Item}
-use Rattle.gms_grammar.specs.declared.item.Item.TheVariants.{Begins, Defines, Relates, Ends, Number, Name as NameItem, Enters, Lists, Applies, Groups, Raises, Signs, Joins, Sets, Model as ModelItem, Solves, Aims}
+use Rattle.gms_grammar.specs.declared.item.Item.TheVariants.{Begins, Defines, Relates, Ends, Number, Name as NameItem, Enters, Lists, Applies, Groups, Raises, Signs, Joins, Sets, Model as ModelItem, Match as MatchItem, Solves, Aims}
 use Rattle.gms_grammar.specs.declared.symbol.Declares.{Declares}
 use Rattle.gms_grammar.specs.declared.symbol.Declares.TheVariants.{Variables as ForVariables, Equations as ForEquations}
 use Rattle.gms_grammar.specs.declared.symbol.Want.{Want}
-use Rattle.gms_grammar.specs.declared.symbol.Want.TheVariants.{Variables as WantVariables, Equals as WantEquals, Slash as WantSlash, Using as WantUsing, Emp as WantEmp, Semicolon as WantSemicolon}
+use Rattle.gms_grammar.specs.declared.symbol.Want.TheVariants.{Variables as WantVariables, Equals as WantEquals, Slash as WantSlash, Using as WantUsing, Emp as WantEmp, Mcp as WantMcp, Dot as WantDot, Semicolon as WantSemicolon}
 use Rattle.gms_grammar.specs.declared.symbol.Symbol.{Symbol}
-use Rattle.gms_grammar.specs.declared.symbol.Symbol.TheVariants.{File, Semicolons, Single, Write, Names, OptionalText, MoreNames, AfterName, Attribute, Value, SignedValue, Comparison, ModelName, Everything, SolveName, Goal, Aim, Sum as SumSymbol, Factor as FactorSymbol, AfterLeaf, MorePower, Exponent, MoreFactors, MoreTerms, MoreArguments, Closing}
+use Rattle.gms_grammar.specs.declared.symbol.Symbol.TheVariants.{File, Semicolons, Single, Write, Names, OptionalText, MoreNames, AfterName, Attribute, Value, SignedValue, Comparison, ModelName, Everything, MatchEquation, MatchVariable, MoreMatches, SolveName, Goal, Aim, Sum as SumSymbol, Factor as FactorSymbol, AfterLeaf, MorePower, Exponent, MoreFactors, MoreTerms, MoreArguments, Closing}
 use Rattle.gms_grammar.specs.declared.symbol.Next.{Next}
 use Rattle.gms_grammar.specs.declared.symbol.Next.TheVariants.{Nothing, One, Two, Three, Four}
 use Rattle.gms_grammar.specs.declared.symbol.Move.{Move}
 use Rattle.gms_grammar.specs.declared.symbol.Move.TheVariants.{Fail, Skip, Take}
-use Rattle.gms_grammar.specs.Grammar.{Written, IsName, sum_operator, product_operator, signed_limit, Level, Arguments, Sum, Term, Factor, Primary, Stands, a_numeral, a_name, a_call, a_group, a_primary, a_power, a_factor, a_product, a_term, a_signed, a_sum, an_argument, arguments, Statement, IsEntry, bare, described, AreNames, first, next, next_behind_comma, IsUnsigned, finite, infinite, IsLimit, no_sign, with_sign, IsGoal, no_goal, least, greatest, IsStatement, is_empty, is_variables, is_domain, is_equations, is_definition, is_setting, is_model, IsSolve, is_solve, AreSemicolons, none, more, IsFile, last, then}
+use Rattle.gms_grammar.specs.Grammar.{Written, IsName, sum_operator, product_operator, signed_limit, Level, Arguments, Sum, Term, Factor, Primary, Stands, a_numeral, a_name, a_call, a_group, a_primary, a_power, a_factor, a_product, a_term, a_signed, a_sum, an_argument, arguments, Statement, IsEntry, bare, described, AreNames, first, next, next_behind_comma, IsUnsigned, finite, infinite, IsLimit, no_sign, with_sign, IsGoal, no_goal, least, greatest, AreMatches, one_match, more_matches, IsStatementOf, is_empty, is_variables, is_domain, is_equations, is_definition, is_setting, is_model, is_matched, IsSolveOf, is_solve, is_mcp, AreSemicolons, none, more, IsFileOf, last, then}
 use Rattle.gms_grammar.specs.Items.{written_items, goal_items, statement_items, items_of}
-use Rattle.gms_grammar.specs.Machine.{declared, wanted, is_wanted, file_move, semicolons_move, names_move, optional_text_move, more_names_move, after_name_move, attribute_move, value_move, signed_value_move, comparison_move, model_name_move, everything_move, solve_name_move, goal_move, aim_move, sum_move, factor_move, after_leaf_move, more_power_move, exponent_move, more_factors_move, more_terms_move, more_arguments_move, closing_move, move as move_of, symbols}
+use Rattle.gms_grammar.specs.Machine.{declared, wanted, is_wanted, file_move, semicolons_move, names_move, optional_text_move, more_names_move, after_name_move, attribute_move, value_move, signed_value_move, comparison_move, model_name_move, everything_move, match_equation_move, match_variable_move, more_matches_move, solve_name_move, goal_move, aim_move, sum_move, factor_move, after_leaf_move, more_power_move, exponent_move, more_factors_move, more_terms_move, more_arguments_move, closing_move, move as move_of, symbols}
 use Rattle.gms_grammar.specs.Steps.{AreItems}
 use Rattle.gms_grammar.proofs.Writing.{Writes, over, takes, skips}
 
@@ -66,17 +68,17 @@ EndsList how us w = (ts : List Lexeme) (v : List Item) → HasNames how ts v →
 data IsNames (how : Declares) : List Lexeme → List Item → Type 0 where
   names_of : {ts us : List Lexeme} {t : Lexeme} {w : List Item} → IsEntry ts t → EndsList how us w → IsNames how (ts ++ us) (declared how t ∷ w)
 
-data IsOne : List Lexeme → List Item → Type 0 where
-  one_of : {ts : List Lexeme} {s : Statement} → IsStatement ts s → IsOne ts (statement_items s)
+data IsOne (k : Kind) : List Lexeme → List Item → Type 0 where
+  one_of : {ts : List Lexeme} {s : Statement} → IsStatementOf k ts s → IsOne k ts (statement_items s)
 
-data IsSolved : List Lexeme → List Item → Type 0 where
-  solve_of : {ts : List Lexeme} {s : Statement} → IsSolve ts s → IsSolved ts (statement_items s)
+data IsSolved (k : Kind) : List Lexeme → List Item → Type 0 where
+  solve_of : {ts : List Lexeme} {s : Statement} → IsSolveOf k ts s → IsSolved k ts (statement_items s)
 
 data IsTail : List Lexeme → List Item → Type 0 where
   tail_of : {ts : List Lexeme} → AreSemicolons ts → IsTail ts []
 
-data IsWhole : List Lexeme → List Item → Type 0 where
-  file_of : {ts : List Lexeme} {ss : List Statement} → IsFile ts ss → IsWhole ts (items_of ss)
+data IsWhole (k : Kind) : List Lexeme → List Item → Type 0 where
+  file_of : {ts : List Lexeme} {ss : List Statement} → IsFileOf k ts ss → IsWhole k ts (items_of ss)
 
 data IsValue (n a : Lexeme) : List Lexeme → List Item → Type 0 where
   value_of : {ts : List Lexeme} {limit : Limit} (z : Lexeme) → IsLimit ts limit → z.sort ≡ Semicolon → IsValue n a (ts ++ z ∷ []) (Sets n a limit ∷ [])
@@ -89,6 +91,10 @@ data IsComparison : List Lexeme → List Item → Type 0 where
 
 data IsEverything : List Lexeme → List Item → Type 0 where
   everything : {b c z : Lexeme} → b.sort ≡ Name All → c.sort ≡ Scaled Over → z.sort ≡ Semicolon → IsEverything (b ∷ c ∷ z ∷ []) []
+
+-- matches with the `/ ;` behind them
+data IsMatchList : List Lexeme → List Item → Type 0 where
+  matches_of : {ts : List Lexeme} {qs : List (Lexeme × Lexeme)} (c z : Lexeme) → AreMatches ts qs → c.sort ≡ Scaled Over → z.sort ≡ Semicolon → IsMatchList (ts ++ c ∷ z ∷ []) (map (λ q. MatchItem q.0 q.1) qs)
 
 data IsGoalEnd : List Lexeme → List Item → Type 0 where
   goal_of : {ts : List Lexeme} {goal : Option (Sense × Lexeme)} (z : Lexeme) → IsGoal ts goal → z.sort ≡ Semicolon → IsGoalEnd (ts ++ z ∷ []) (goal_items goal)
@@ -111,21 +117,24 @@ Grows from to us w = (ts : List Lexeme) (v : List Item) → IsAt from ts v → I
 
 -- ---- the meaning of a symbol
 abbrev Means : Symbol → List Lexeme → List Item → Type 0
-Means File ts w = IsWhole ts w
+Means (File k) ts w = IsWhole k ts w
 Means Semicolons ts w = IsTail ts w
 Means (Single want) ts w = IsWanted want ts w
 Means (Write item) ts w = IsDone item ts w
 Means (Names how) ts w = IsNames how ts w
 Means OptionalText ts w = IsText ts w
 Means (MoreNames how) ts w = EndsList how ts w
-Means (AfterName n) ts w = IsName n → IsOne (n ∷ ts) w
-Means (Attribute n) ts w = (d : Lexeme) → IsName n → d.sort ≡ Dot → IsOne (n ∷ d ∷ ts) w
+Means (AfterName n) ts w = (k : Kind) → IsName n → IsOne k (n ∷ ts) w
+Means (Attribute n) ts w = (k : Kind) (d : Lexeme) → IsName n → d.sort ≡ Dot → IsOne k (n ∷ d ∷ ts) w
 Means (Value n a) ts w = IsValue n a ts w
 Means (SignedValue n a s) ts w = IsSignedValue n a s ts w
 Means Comparison ts w = IsComparison ts w
-Means ModelName ts w = (m : Lexeme) → m.sort ≡ Model → IsOne (m ∷ ts) w
+Means (ModelName k) ts w = (m : Lexeme) → m.sort ≡ Model → IsOne k (m ∷ ts) w
 Means Everything ts w = IsEverything ts w
-Means SolveName ts w = (k : Lexeme) → k.sort ≡ Solve → IsSolved (k ∷ ts) w
+Means MatchEquation ts w = IsMatchList ts w
+Means (MatchVariable e) ts w = (d : Lexeme) → IsName e → d.sort ≡ Dot → IsMatchList (e ∷ d ∷ ts) w
+Means MoreMatches ts w = (e d v : Lexeme) → IsName e → d.sort ≡ Dot → IsName v → IsMatchList (e ∷ d ∷ v ∷ ts) (MatchItem e v ∷ w)
+Means (SolveName k) ts w = (s : Lexeme) → s.sort ≡ Solve → IsSolved k (s ∷ ts) w
 Means Goal ts w = IsGoalEnd ts w
 Means (Aim s) ts w = IsAim s ts w
 Means SumSymbol ts w = IsAt Sum ts w
@@ -156,10 +165,10 @@ Keeps x t (Skip item) = Means x [] (option_to_list item)
 Keeps x t (Take item n) = (us : List Lexeme) (w : List Item) → MeansNext n us w → Means x (t ∷ us) (option_to_list item ++ w)
 
 -- ---- statements
-one_more : {ts us : List Lexeme} {v w : List Item} → IsOne ts v → IsWhole us w → IsWhole (ts ++ us) (v ++ w)
+one_more : {k : Kind} {ts us : List Lexeme} {v w : List Item} → IsOne k ts v → IsWhole k us w → IsWhole k (ts ++ us) (v ++ w)
 one_more {v = v} {w = w} (one_of {ts = ts} {s = s} h) (file_of {ts = us} {ss = ss} k) = file_of (then ts us s ss h k)
 
-solved : {ts us : List Lexeme} {v w : List Item} → IsSolved ts v → IsTail us w → IsWhole (ts ++ us) (v ++ w)
+solved : {k : Kind} {ts us : List Lexeme} {v w : List Item} → IsSolved k ts v → IsTail us w → IsWhole k (ts ++ us) (v ++ w)
 solved (solve_of {ts = ts} {s = s} h) (tail_of {ts = us} k) = file_of (last ts us s h k)
 
 -- ---- lists of names
@@ -190,38 +199,38 @@ module _ {how : Declares} where
   ends_list : (z : Lexeme) → z.sort ≡ Semicolon → EndsList how (z ∷ []) []
   ends_list z e ts v (has h) = rw append-nil (list_of z h e)
 
-domain_one : {d v : Lexeme} {k : Domain} {ts : List Lexeme} {w : List Item} → d.sort ≡ DomainWord k → v.sort ≡ Variables → IsList (ForVariables k) ts w → IsOne (d ∷ v ∷ ts) (Begins k d ∷ w)
+domain_one : {kind : Kind} {d v : Lexeme} {k : Domain} {ts : List Lexeme} {w : List Item} → d.sort ≡ DomainWord k → v.sort ≡ Variables → IsList (ForVariables k) ts w → IsOne kind (d ∷ v ∷ ts) (Begins k d ∷ w)
 domain_one {d = d} {v = v} {k = k} e f (list_of {ts = ts} {names = names} z h g) = one_of (is_domain d v z k ts names e f h g)
 
-domain_file : {d : Lexeme} {k : Domain} {us : List Lexeme} {w : List Item} → d.sort ≡ DomainWord k → Split (IsWanted WantVariables) (Split (IsNames (ForVariables k)) IsWhole) us w → IsWhole (d ∷ us) (Begins k d ∷ w)
+domain_file : {kind : Kind} {d : Lexeme} {k : Domain} {us : List Lexeme} {w : List Item} → d.sort ≡ DomainWord k → Split (IsWanted WantVariables) (Split (IsNames (ForVariables k)) (IsWhole kind)) us w → IsWhole kind (d ∷ us) (Begins k d ∷ w)
 domain_file e (split (single f) (split names rest)) = one_more (domain_one e f (one_list names)) rest
 
-variables_one : {v : Lexeme} {ts : List Lexeme} {w : List Item} → v.sort ≡ Variables → IsList (ForVariables Free) ts w → IsOne (v ∷ ts) (Begins Free v ∷ w)
+variables_one : {kind : Kind} {v : Lexeme} {ts : List Lexeme} {w : List Item} → v.sort ≡ Variables → IsList (ForVariables Free) ts w → IsOne kind (v ∷ ts) (Begins Free v ∷ w)
 variables_one {v = v} e (list_of {ts = ts} {names = names} z h g) = one_of (is_variables v z ts names e h g)
 
-variables_file : {v : Lexeme} {us : List Lexeme} {w : List Item} → v.sort ≡ Variables → Split (IsNames (ForVariables Free)) IsWhole us w → IsWhole (v ∷ us) (Begins Free v ∷ w)
+variables_file : {kind : Kind} {v : Lexeme} {us : List Lexeme} {w : List Item} → v.sort ≡ Variables → Split (IsNames (ForVariables Free)) (IsWhole kind) us w → IsWhole kind (v ∷ us) (Begins Free v ∷ w)
 variables_file e (split names rest) = one_more (variables_one e (one_list names)) rest
 
-equations_one : {v : Lexeme} {ts : List Lexeme} {w : List Item} → v.sort ≡ Equations → IsList ForEquations ts w → IsOne (v ∷ ts) w
+equations_one : {kind : Kind} {v : Lexeme} {ts : List Lexeme} {w : List Item} → v.sort ≡ Equations → IsList ForEquations ts w → IsOne kind (v ∷ ts) w
 equations_one {v = v} e (list_of {ts = ts} {names = names} z h g) = one_of (is_equations v z ts names e h g)
 
-equations_file : {v : Lexeme} {us : List Lexeme} {w : List Item} → v.sort ≡ Equations → Split (IsNames ForEquations) IsWhole us w → IsWhole (v ∷ us) w
+equations_file : {kind : Kind} {v : Lexeme} {us : List Lexeme} {w : List Item} → v.sort ≡ Equations → Split (IsNames ForEquations) (IsWhole kind) us w → IsWhole kind (v ∷ us) w
 equations_file e (split names rest) = one_more (equations_one e (one_list names)) rest
 
-model_file : {m : Lexeme} {us : List Lexeme} {w : List Item} → m.sort ≡ Model → Split (Means ModelName) IsWhole us w → IsWhole (m ∷ us) w
+model_file : {kind : Kind} {m : Lexeme} {us : List Lexeme} {w : List Item} → m.sort ≡ Model → Split (Means (ModelName kind)) (IsWhole kind) us w → IsWhole kind (m ∷ us) w
 model_file {m = m} e (split one rest) = one_more (one m e) rest
 
-solve_file : {k : Lexeme} {us : List Lexeme} {w : List Item} → k.sort ≡ Solve → Split (Means SolveName) IsTail us w → IsWhole (k ∷ us) w
+solve_file : {kind : Kind} {k : Lexeme} {us : List Lexeme} {w : List Item} → k.sort ≡ Solve → Split (Means (SolveName kind)) IsTail us w → IsWhole kind (k ∷ us) w
 solve_file {k = k} e (split one rest) = solved (one k e) rest
 
-name_file : {n : Lexeme} {us : List Lexeme} {w : List Item} → IsName n → Split (Means (AfterName n)) IsWhole us w → IsWhole (n ∷ us) w
-name_file name (split one rest) = one_more (one name) rest
+name_file : {kind : Kind} {n : Lexeme} {us : List Lexeme} {w : List Item} → IsName n → Split (Means (AfterName n)) (IsWhole kind) us w → IsWhole kind (n ∷ us) w
+name_file {kind = kind} name (split one rest) = one_more (one kind name) rest
 
-definition_one : {n d : Lexeme} {us : List Lexeme} {w : List Item} → IsName n → d.sort ≡ Dots → Split (IsAt Sum) IsComparison us w → IsOne (n ∷ d ∷ us) (Defines n ∷ w)
-definition_one {n = n} {d = d} named e (split (is {ts = ts} {e = left} h) (comparison_of {r = r} z {ts = us} {k = k} {e = right} f g j)) =
-    simp append_assoc at (one_of (is_definition n d r z k ts us left right named e h f g j))
+definition_one : {kind : Kind} {n d : Lexeme} {us : List Lexeme} {w : List Item} → IsName n → d.sort ≡ Dots → Split (IsAt Sum) IsComparison us w → IsOne kind (n ∷ d ∷ us) (Defines n ∷ w)
+definition_one {kind = kind} {n = n} {d = d} named e (split (is {ts = ts} {e = left} h) (comparison_of {r = r} z {ts = us} {k = k} {e = right} f g j)) =
+    simp append_assoc at (one_of (is_definition {kind = kind} n d r z k ts us left right named e h f g j))
 
-setting_one : {n d a : Lexeme} {us : List Lexeme} {w : List Item} → IsName n → d.sort ≡ Dot → IsName a → Split (IsWanted WantEquals) (IsValue n a) us w → IsOne (n ∷ d ∷ a ∷ us) w
+setting_one : {kind : Kind} {n d a : Lexeme} {us : List Lexeme} {w : List Item} → IsName n → d.sort ≡ Dot → IsName a → Split (IsWanted WantEquals) (IsValue n a) us w → IsOne kind (n ∷ d ∷ a ∷ us) w
 setting_one {n = n} {d = d} {a = a} name e attribute (split (single {t = q} f) (value_of {ts = ts} {limit = limit} z h g)) =
     one_of (is_setting n d a q z ts limit name e attribute f h g)
 
@@ -237,16 +246,34 @@ behind_sign h (single e) = signed_of h e
 comparison : {r : Lexeme} {k : Relation} {us : List Lexeme} {w : List Item} → r.sort ≡ Related k → Split (IsAt Sum) (Split (IsWanted WantSemicolon) (IsDone Ends)) us w → IsComparison (r ∷ us) (Relates k ∷ w)
 comparison e (split (is h) (split (single {t = z} f) done)) = comparison_of z e h f
 
-model_one : {m t : Lexeme} {us : List Lexeme} {w : List Item} → m.sort ≡ Model → IsName t → Split IsText (Split (IsWanted WantSlash) IsEverything) us w → IsOne (m ∷ t ∷ us) (ModelItem t ∷ w)
+model_one : {m t : Lexeme} {us : List Lexeme} {w : List Item} → m.sort ≡ Model → IsName t → Split IsText (Split (IsWanted WantSlash) IsEverything) us w → IsOne Agents (m ∷ t ∷ us) (ModelItem t ∷ w)
 model_one {m = m} {t = t} e name (split no_text (split (single {t = a} f) (everything {b = b} {c = c} {z = z} g h j))) =
     one_of (is_model m a b c z (t ∷ []) t e (bare t name) f g h j)
 model_one {m = m} {t = t} e name (split (a_text {x = x} k) (split (single {t = a} f) (everything {b = b} {c = c} {z = z} g h j))) =
     one_of (is_model m a b c z (t ∷ x ∷ []) t e (described t x name k) f g h j)
 
+matched_one : {m t : Lexeme} {us : List Lexeme} {w : List Item} → m.sort ≡ Model → IsName t → Split IsText (Split (IsWanted WantSlash) IsMatchList) us w → IsOne Matches (m ∷ t ∷ us) (ModelItem t ∷ w)
+matched_one {m = m} {t = t} e name (split no_text (split (single {t = a} f) (matches_of {ts = us} {qs = qs} c z g h j))) =
+    one_of (is_matched m a c z (t ∷ []) us t qs e (bare t name) f g h j)
+matched_one {m = m} {t = t} e name (split (a_text {x = x} k) (split (single {t = a} f) (matches_of {ts = us} {qs = qs} c z g h j))) =
+    one_of (is_matched m a c z (t ∷ x ∷ []) us t qs e (described t x name k) f g h j)
+
+one_match_ends : {e d v c : Lexeme} {us : List Lexeme} {w : List Item} → IsName e → d.sort ≡ Dot → IsName v → c.sort ≡ Scaled Over → IsWanted WantSemicolon us w → IsMatchList (e ∷ d ∷ v ∷ c ∷ us) (MatchItem e v ∷ w)
+one_match_ends {e = e} {d = d} {v = v} {c = o} a b c slash (single {t = z} h) = matches_of o z (one_match e d v a b c) slash h
+
+one_match_more : {e d v c : Lexeme} {us : List Lexeme} {w : List Item} → IsName e → d.sort ≡ Dot → IsName v → c.sort ≡ Comma → IsMatchList us w → IsMatchList (e ∷ d ∷ v ∷ c ∷ us) (MatchItem e v ∷ w)
+one_match_more {e = e} {d = d} {v = v} {c = c} a b n comma (matches_of {ts = ts} {qs = qs} o z are slash h) = matches_of o z (more_matches e d v c ts qs a b n comma are) slash h
+
+dotted : {e : Lexeme} {us : List Lexeme} {w : List Item} → IsName e → Split (IsWanted WantDot) (Means (MatchVariable e)) us w → IsMatchList (e ∷ us) w
+dotted named (split (single {t = d} f) rest) = rest d named f
+
+mcp_one : {k t : Lexeme} {us : List Lexeme} {w : List Item} → k.sort ≡ Solve → IsName t → Split (IsWanted WantUsing) (Split (IsWanted WantMcp) (IsWanted WantSemicolon)) us w → IsSolved Matches (k ∷ t ∷ us) (Solves t ∷ w)
+mcp_one {k = k} {t = t} e name (split (single {t = u} f) (split (single {t = p} g) (single {t = z} h))) = solve_of (is_mcp k t u p z e name f g h)
+
 all_of_it : {b : Lexeme} {us : List Lexeme} {w : List Item} → b.sort ≡ Name All → Split (IsWanted WantSlash) (IsWanted WantSemicolon) us w → IsEverything (b ∷ us) w
 all_of_it e (split (single f) (single g)) = everything e f g
 
-solve_one : {k t : Lexeme} {us : List Lexeme} {w : List Item} → k.sort ≡ Solve → IsName t → Split (IsWanted WantUsing) (Split (IsWanted WantEmp) IsGoalEnd) us w → IsSolved (k ∷ t ∷ us) (Solves t ∷ w)
+solve_one : {k t : Lexeme} {us : List Lexeme} {w : List Item} → k.sort ≡ Solve → IsName t → Split (IsWanted WantUsing) (Split (IsWanted WantEmp) IsGoalEnd) us w → IsSolved Agents (k ∷ t ∷ us) (Solves t ∷ w)
 solve_one {k = k} {t = t} e name (split (single {t = u} f) (split (single {t = p} g) (goal_of {ts = ts} {goal = goal} z h j))) =
     solve_of (is_solve k t u p z ts goal e name f g h j)
 
@@ -351,6 +378,8 @@ wants WantEquals Equals e = refl
 wants WantSlash (Scaled Over) e = refl
 wants WantUsing (Name Using) e = refl
 wants WantEmp (Name Emp) e = refl
+wants WantMcp (Name Mcp) e = refl
+wants WantDot Dot e = refl
 wants WantSemicolon Semicolon e = refl
 wants want q e = cc
 
@@ -361,15 +390,15 @@ keeps_single : (want : Want) (t : Lexeme) (q : Sort) → t.sort ≡ q → (b : B
 keeps_single want t q e true h = λ us w k. taken (e ∙ wants want q h) k
 keeps_single want t q e false h = tt
 
-keeps_file : (t : Lexeme) (q : Sort) → t.sort ≡ q → Keeps File t (file_move q t)
-keeps_file t Semicolon e = λ us w h. one_more (one_of (is_empty t e)) h
-keeps_file t (DomainWord k) e = λ us w h. domain_file e h
-keeps_file t Variables e = λ us w h. variables_file e h
-keeps_file t Equations e = λ us w h. equations_file e h
-keeps_file t Model e = λ us w h. model_file e h
-keeps_file t Solve e = λ us w h. solve_file e h
-keeps_file t (Name k) e = λ us w h. name_file (k, e) h
-keeps_file t q e = tt
+keeps_file : (kind : Kind) (t : Lexeme) (q : Sort) → t.sort ≡ q → Keeps (File kind) t (file_move kind q t)
+keeps_file kind t Semicolon e = λ us w h. one_more (one_of (is_empty t e)) h
+keeps_file kind t (DomainWord k) e = λ us w h. domain_file e h
+keeps_file kind t Variables e = λ us w h. variables_file e h
+keeps_file kind t Equations e = λ us w h. equations_file e h
+keeps_file kind t Model e = λ us w h. model_file e h
+keeps_file kind t Solve e = λ us w h. solve_file e h
+keeps_file kind t (Name k) e = λ us w h. name_file (k, e) h
+keeps_file kind t q e = tt
 
 one_semicolon_more : {z : Lexeme} {us : List Lexeme} {w : List Item} → z.sort ≡ Semicolon → IsTail us w → IsTail (z ∷ us) w
 one_semicolon_more {z = z} e (tail_of {ts = ts} h) = tail_of (more z ts e h)
@@ -399,12 +428,12 @@ keeps_more_names how t Semicolon e = λ us w h. end_of_list t e h
 keeps_more_names how t q e = tt
 
 keeps_after_name : (n t : Lexeme) (q : Sort) → t.sort ≡ q → Keeps (AfterName n) t (after_name_move n q)
-keeps_after_name n t Dots e = λ us w h named. definition_one named e h
-keeps_after_name n t Dot e = λ us w h named. h t named e
+keeps_after_name n t Dots e = λ us w h k named. definition_one named e h
+keeps_after_name n t Dot e = λ us w h k named. h k t named e
 keeps_after_name n t q e = tt
 
 keeps_attribute : (n t : Lexeme) (q : Sort) → t.sort ≡ q → Keeps (Attribute n) t (attribute_move n q t)
-keeps_attribute n t (Name k) e = λ us w h d named dot. setting_one named dot (k, e) h
+keeps_attribute n t (Name k) e = λ us w h kind d named dot. setting_one named dot (k, e) h
 keeps_attribute n t q e = tt
 
 keeps_value : (n a t : Lexeme) (q : Sort) → t.sort ≡ q → Keeps (Value n a) t (value_move n a q)
@@ -422,17 +451,38 @@ keeps_comparison : (t : Lexeme) (q : Sort) → t.sort ≡ q → Keeps Comparison
 keeps_comparison t (Related k) e = λ us w h. comparison e h
 keeps_comparison t q e = tt
 
-keeps_model_name : (t : Lexeme) (q : Sort) → t.sort ≡ q → Keeps ModelName t (model_name_move q t)
-keeps_model_name t (Name k) e = λ us w h m f. model_one f (k, e) h
-keeps_model_name t q e = tt
+keeps_model_name : (kind : Kind) (t : Lexeme) (q : Sort) → t.sort ≡ q → Keeps (ModelName kind) t (model_name_move kind q t)
+keeps_model_name Agents t (Name k) e = λ us w h m f. model_one f (k, e) h
+keeps_model_name Matches t (Name k) e = λ us w h m f. matched_one f (k, e) h
+keeps_model_name kind t q e = tt
 
 keeps_everything : (t : Lexeme) (q : Sort) → t.sort ≡ q → Keeps Everything t (everything_move q)
 keeps_everything t (Name All) e = λ us w h. all_of_it e h
 keeps_everything t q e = tt
 
-keeps_solve_name : (t : Lexeme) (q : Sort) → t.sort ≡ q → Keeps SolveName t (solve_name_move q t)
-keeps_solve_name t (Name k) e = λ us w h s f. solve_one f (k, e) h
-keeps_solve_name t q e = tt
+closed_match : (t : Lexeme) {us : List Lexeme} {w : List Item} → t.sort ≡ Scaled Over → IsWanted WantSemicolon us w → Means MoreMatches (t ∷ us) w
+closed_match t slash h e d v a b c = one_match_ends a b c slash h
+
+further_match : (t : Lexeme) {us : List Lexeme} {w : List Item} → t.sort ≡ Comma → IsMatchList us w → Means MoreMatches (t ∷ us) w
+further_match t comma h e d v a b c = one_match_more a b c comma h
+
+keeps_match_equation : (t : Lexeme) (q : Sort) → t.sort ≡ q → Keeps MatchEquation t (match_equation_move q t)
+keeps_match_equation t (Name k) e = λ us w h. dotted (k, e) h
+keeps_match_equation t q e = tt
+
+keeps_match_variable : (n t : Lexeme) (q : Sort) → t.sort ≡ q → Keeps (MatchVariable n) t (match_variable_move n q t)
+keeps_match_variable n t (Name k) e = λ us w h d named dot. h n d t named dot (k, e)
+keeps_match_variable n t q e = tt
+
+keeps_more_matches : (t : Lexeme) (q : Sort) → t.sort ≡ q → Keeps MoreMatches t (more_matches_move q)
+keeps_more_matches t Comma e = λ us w h. further_match t e h
+keeps_more_matches t (Scaled Over) e = λ us w h. closed_match t e h
+keeps_more_matches t q e = tt
+
+keeps_solve_name : (kind : Kind) (t : Lexeme) (q : Sort) → t.sort ≡ q → Keeps (SolveName kind) t (solve_name_move kind q t)
+keeps_solve_name Agents t (Name k) e = λ us w h s f. solve_one f (k, e) h
+keeps_solve_name Matches t (Name k) e = λ us w h s f. mcp_one f (k, e) h
+keeps_solve_name kind t q e = tt
 
 without_goal : {t : Lexeme} {us : List Lexeme} {w : List Item} → t.sort ≡ Semicolon → Nil us w → IsGoalEnd (t ∷ us) w
 without_goal {t = t} e nil = goal_of t no_goal e
@@ -499,7 +549,7 @@ keeps_closing t Close e = λ us w h. group t e h
 keeps_closing t q e = tt
 
 keeps : (x : Symbol) (t : Lexeme) (q : Sort) → t.sort ≡ q → Keeps x t (move_of x q t)
-keeps File t q e = keeps_file t q e
+keeps (File kind) t q e = keeps_file kind t q e
 keeps Semicolons t q e = keeps_semicolons t q e
 keeps (Single want) t q e = keeps_single want t q e (is_wanted want q) refl
 keeps (Write item) t q e = done
@@ -511,9 +561,12 @@ keeps (Attribute n) t q e = keeps_attribute n t q e
 keeps (Value n a) t q e = keeps_value n a t q e
 keeps (SignedValue n a s) t q e = keeps_signed_value n a s t q e
 keeps Comparison t q e = keeps_comparison t q e
-keeps ModelName t q e = keeps_model_name t q e
+keeps (ModelName kind) t q e = keeps_model_name kind t q e
 keeps Everything t q e = keeps_everything t q e
-keeps SolveName t q e = keeps_solve_name t q e
+keeps MatchEquation t q e = keeps_match_equation t q e
+keeps (MatchVariable n) t q e = keeps_match_variable n t q e
+keeps MoreMatches t q e = keeps_more_matches t q e
+keeps (SolveName kind) t q e = keeps_solve_name kind t q e
 keeps Goal t q e = keeps_goal t q e
 keeps (Aim s) t q e = keeps_aim s t q e
 keeps SumSymbol t q e = keeps_sum t q e
@@ -555,11 +608,11 @@ means (takes {x = x} {s = s} {t = t} {item = item} {next = n} e h) = one_taken x
 means (skips {x = x} {t = t} e h) = split (subst (Keeps x t) e (keeps x t t.sort refl)) (means h)
 
 -- ---- what the machine writes is what statements write
-whole : {ts : List Lexeme} {w : List Item} → IsWhole ts w → AreItems ts w
+whole : {k : Kind} {ts : List Lexeme} {w : List Item} → IsWhole k ts w → AreItems k ts w
 whole (file_of {ss = ss} h) = record { statements = ss; file = h; are = refl }
 
-only : {ts : List Lexeme} {w : List Item} → Split IsWhole Nil ts w → IsWhole ts w
+only : {k : Kind} {ts : List Lexeme} {w : List Item} → Split (IsWhole k) Nil ts w → IsWhole k ts w
 only (split h nil) = simp append-nil h
 
-pub sound : {ts : List Lexeme} {w : List Item} → Writes (File ∷ []) ts w → AreItems ts w
+pub sound : {k : Kind} {ts : List Lexeme} {w : List Item} → Writes (File k ∷ []) ts w → AreItems k ts w
 sound h = whole (only (means h))

@@ -6,8 +6,10 @@ use Rattle.emp_ast.specs.declared.tree.Operator.TheVariants.{Plus as AddOperator
 use Rattle.emp_ast.specs.declared.model.Relation.{Relation}
 use Rattle.emp_ast.specs.declared.model.Sense.{Sense}
 use Rattle.emp_ast.specs.declared.model.Sense.TheVariants.{Min, Max}
+use Rattle.gms_grammar.specs.declared.kind.Kind.{Kind}
+use Rattle.gms_grammar.specs.declared.kind.Kind.TheVariants.{Agents, Matches}
 use Rattle.gms_grammar.specs.declared.lexeme.Word.{Word}
-use Rattle.gms_grammar.specs.declared.lexeme.Word.TheVariants.{All, Using, Emp, Minimizing, Maximizing, Infinity}
+use Rattle.gms_grammar.specs.declared.lexeme.Word.TheVariants.{All, Using, Emp, Mcp, Minimizing, Maximizing, Infinity}
 use Rattle.gms_grammar.specs.declared.lexeme.Domain.{Domain}
 use Rattle.gms_grammar.specs.declared.lexeme.Domain.TheVariants.{Free}
 use Rattle.gms_grammar.specs.declared.lexeme.Sign.{Sign}
@@ -80,6 +82,7 @@ pub data Statement : Type 0 where
   definition : Lexeme → Written → Relation → Written → Statement
   setting : Lexeme → Lexeme → Limit → Statement
   model : Lexeme → Statement
+  matched : Lexeme → List (Lexeme × Lexeme) → Statement
   solve : Lexeme → Option (Sense × Lexeme) → Statement
 
 -- a name, and a text or none
@@ -114,24 +117,41 @@ pub data IsGoal : List Lexeme → Option (Sense × Lexeme) → Type 0 where
   least : (w t : Lexeme) → w.sort ≡ Name Minimizing → IsName t → IsGoal (w ∷ t ∷ []) (Some (Min, t))
   greatest : (w t : Lexeme) → w.sort ≡ Name Maximizing → IsName t → IsGoal (w ∷ t ∷ []) (Some (Max, t))
 
--- each with its `;`
-pub data IsStatement : List Lexeme → Statement → Type 0 where
-  is_empty : (z : Lexeme) → z.sort ≡ Semicolon → IsStatement (z ∷ []) empty
-  is_variables : (v z : Lexeme) (ts names : List Lexeme) → v.sort ≡ Variables → AreNames ts names → z.sort ≡ Semicolon → IsStatement (v ∷ ts ++ z ∷ []) (variables Free v names)
-  is_domain : (d v z : Lexeme) (k : Domain) (ts names : List Lexeme) → d.sort ≡ DomainWord k → v.sort ≡ Variables → AreNames ts names → z.sort ≡ Semicolon → IsStatement (d ∷ v ∷ ts ++ z ∷ []) (variables k d names)
-  is_equations : (v z : Lexeme) (ts names : List Lexeme) → v.sort ≡ Equations → AreNames ts names → z.sort ≡ Semicolon → IsStatement (v ∷ ts ++ z ∷ []) (equations names)
-  is_definition : (t d r z : Lexeme) (k : Relation) (ts us : List Lexeme) (left right : Written) → IsName t → d.sort ≡ Dots → Stands Sum ts left → r.sort ≡ Related k → Stands Sum us right → z.sort ≡ Semicolon → IsStatement (t ∷ d ∷ ts ++ r ∷ us ++ z ∷ []) (definition t left k right)
-  is_setting : (t d a q z : Lexeme) (ts : List Lexeme) (limit : Limit) → IsName t → d.sort ≡ Dot → IsName a → q.sort ≡ Equals → IsLimit ts limit → z.sort ≡ Semicolon → IsStatement (t ∷ d ∷ a ∷ q ∷ ts ++ z ∷ []) (setting t a limit)
-  is_model : (m a b c z : Lexeme) (ts : List Lexeme) (t : Lexeme) → m.sort ≡ Model → IsEntry ts t → a.sort ≡ Scaled Over → b.sort ≡ Name All → c.sort ≡ Scaled Over → z.sort ≡ Semicolon → IsStatement (m ∷ ts ++ a ∷ b ∷ c ∷ z ∷ []) (model t)
+-- an equation, a `.` and a variable, with a comma between two
+pub data AreMatches : List Lexeme → List (Lexeme × Lexeme) → Type 0 where
+  one_match : (e d v : Lexeme) → IsName e → d.sort ≡ Dot → IsName v → AreMatches (e ∷ d ∷ v ∷ []) ((e, v) ∷ [])
+  more_matches : (e d v c : Lexeme) (ts : List Lexeme) (qs : List (Lexeme × Lexeme)) → IsName e → d.sort ≡ Dot → IsName v → c.sort ≡ Comma → AreMatches ts qs → AreMatches (e ∷ d ∷ v ∷ c ∷ ts) ((e, v) ∷ qs)
 
-pub data IsSolve : List Lexeme → Statement → Type 0 where
-  is_solve : (k t u e z : Lexeme) (ts : List Lexeme) (goal : Option (Sense × Lexeme)) → k.sort ≡ Solve → IsName t → u.sort ≡ Name Using → e.sort ≡ Name Emp → IsGoal ts goal → z.sort ≡ Semicolon → IsSolve (k ∷ t ∷ u ∷ e ∷ ts ++ z ∷ []) (solve t goal)
+-- each with its `;`
+pub data IsStatementOf : Kind → List Lexeme → Statement → Type 0 where
+  is_empty : {k : Kind} (z : Lexeme) → z.sort ≡ Semicolon → IsStatementOf k (z ∷ []) empty
+  is_variables : {k : Kind} (v z : Lexeme) (ts names : List Lexeme) → v.sort ≡ Variables → AreNames ts names → z.sort ≡ Semicolon → IsStatementOf k (v ∷ ts ++ z ∷ []) (variables Free v names)
+  is_domain : {kind : Kind} (d v z : Lexeme) (k : Domain) (ts names : List Lexeme) → d.sort ≡ DomainWord k → v.sort ≡ Variables → AreNames ts names → z.sort ≡ Semicolon → IsStatementOf kind (d ∷ v ∷ ts ++ z ∷ []) (variables k d names)
+  is_equations : {k : Kind} (v z : Lexeme) (ts names : List Lexeme) → v.sort ≡ Equations → AreNames ts names → z.sort ≡ Semicolon → IsStatementOf k (v ∷ ts ++ z ∷ []) (equations names)
+  is_definition : {kind : Kind} (t d r z : Lexeme) (k : Relation) (ts us : List Lexeme) (left right : Written) → IsName t → d.sort ≡ Dots → Stands Sum ts left → r.sort ≡ Related k → Stands Sum us right → z.sort ≡ Semicolon → IsStatementOf kind (t ∷ d ∷ ts ++ r ∷ us ++ z ∷ []) (definition t left k right)
+  is_setting : {k : Kind} (t d a q z : Lexeme) (ts : List Lexeme) (limit : Limit) → IsName t → d.sort ≡ Dot → IsName a → q.sort ≡ Equals → IsLimit ts limit → z.sort ≡ Semicolon → IsStatementOf k (t ∷ d ∷ a ∷ q ∷ ts ++ z ∷ []) (setting t a limit)
+  is_model : (m a b c z : Lexeme) (ts : List Lexeme) (t : Lexeme) → m.sort ≡ Model → IsEntry ts t → a.sort ≡ Scaled Over → b.sort ≡ Name All → c.sort ≡ Scaled Over → z.sort ≡ Semicolon → IsStatementOf Agents (m ∷ ts ++ a ∷ b ∷ c ∷ z ∷ []) (model t)
+  is_matched : (m a c z : Lexeme) (ts us : List Lexeme) (t : Lexeme) (qs : List (Lexeme × Lexeme)) → m.sort ≡ Model → IsEntry ts t → a.sort ≡ Scaled Over → AreMatches us qs → c.sort ≡ Scaled Over → z.sort ≡ Semicolon → IsStatementOf Matches (m ∷ ts ++ a ∷ us ++ c ∷ z ∷ []) (matched t qs)
+
+pub data IsSolveOf : Kind → List Lexeme → Statement → Type 0 where
+  is_solve : (k t u e z : Lexeme) (ts : List Lexeme) (goal : Option (Sense × Lexeme)) → k.sort ≡ Solve → IsName t → u.sort ≡ Name Using → e.sort ≡ Name Emp → IsGoal ts goal → z.sort ≡ Semicolon → IsSolveOf Agents (k ∷ t ∷ u ∷ e ∷ ts ++ z ∷ []) (solve t goal)
+  is_mcp : (k t u e z : Lexeme) → k.sort ≡ Solve → IsName t → u.sort ≡ Name Using → e.sort ≡ Name Mcp → z.sort ≡ Semicolon → IsSolveOf Matches (k ∷ t ∷ u ∷ e ∷ z ∷ []) (solve t None)
 
 pub data AreSemicolons : List Lexeme → Type 0 where
   none : AreSemicolons []
   more : (z : Lexeme) (ts : List Lexeme) → z.sort ≡ Semicolon → AreSemicolons ts → AreSemicolons (z ∷ ts)
 
 -- statements, of which `solve` is the last, and nothing but `;` behind it
-pub data IsFile : List Lexeme → List Statement → Type 0 where
-  last : (ts zs : List Lexeme) (s : Statement) → IsSolve ts s → AreSemicolons zs → IsFile (ts ++ zs) (s ∷ [])
-  then : (ts us : List Lexeme) (s : Statement) (ss : List Statement) → IsStatement ts s → IsFile us ss → IsFile (ts ++ us) (s ∷ ss)
+pub data IsFileOf : Kind → List Lexeme → List Statement → Type 0 where
+  last : {k : Kind} (ts zs : List Lexeme) (s : Statement) → IsSolveOf k ts s → AreSemicolons zs → IsFileOf k (ts ++ zs) (s ∷ [])
+  then : {k : Kind} (ts us : List Lexeme) (s : Statement) (ss : List Statement) → IsStatementOf k ts s → IsFileOf k us ss → IsFileOf k (ts ++ us) (s ∷ ss)
+
+-- those of files with an annotation
+abbrev pub IsStatement : List Lexeme → Statement → Type 0
+IsStatement ts s = IsStatementOf Agents ts s
+
+abbrev pub IsSolve : List Lexeme → Statement → Type 0
+IsSolve ts s = IsSolveOf Agents ts s
+
+abbrev pub IsFile : List Lexeme → List Statement → Type 0
+IsFile ts ss = IsFileOf Agents ts ss

@@ -3,8 +3,8 @@ use Rattle.std.specs.Prelude.{List, [], ◌∷◌, ◌++◌, map, Option, Some, 
 use Rattle.emp_ast.specs.declared.model.Sense.{Sense}
 use Rattle.gms_grammar.specs.declared.lexeme.Lexeme.{Lexeme}
 use Rattle.gms_grammar.specs.declared.item.Item.{Item}
-use Rattle.gms_grammar.specs.declared.item.Item.TheVariants.{Begins, Variable, Equation, Defines, Relates, Ends, Number, Name, Enters, Lists, Applies, Groups, Raises, Signs, Joins, Sets, Model, Solves, Aims}
-use Rattle.gms_grammar.specs.Grammar.{Written, numeral, name, call, listed, grouped, raised, signed, joined, Statement, empty, variables, equations, definition, setting, model, solve}
+use Rattle.gms_grammar.specs.declared.item.Item.TheVariants.{Begins, Variable, Equation, Defines, Relates, Ends, Number, Name, Enters, Lists, Applies, Groups, Raises, Signs, Joins, Sets, Model, Match, Solves, Aims}
+use Rattle.gms_grammar.specs.Grammar.{Written, numeral, name, call, listed, grouped, raised, signed, joined, Statement, empty, variables, equations, definition, setting, model, matched, solve}
 
 abbrev pub written_items : Written → List Item
 written_items (numeral t f) = Number t f ∷ []
@@ -27,6 +27,7 @@ statement_items (equations names) = map (λ t. Equation t) names
 statement_items (definition t left r right) = Defines t ∷ written_items left ++ Relates r ∷ written_items right ++ Ends ∷ []
 statement_items (setting t a limit) = Sets t a limit ∷ []
 statement_items (model t) = Model t ∷ []
+statement_items (matched t qs) = Model t ∷ map (λ q. Match q.0 q.1) qs
 statement_items (solve t goal) = Solves t ∷ goal_items goal
 
 abbrev pub items_of : List Statement → List Item

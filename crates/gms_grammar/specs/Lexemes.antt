@@ -10,7 +10,7 @@ use Rattle.emp_lex.specs.declared.token.TokenKind.{TokenKind}
 use Rattle.emp_lex.specs.declared.token.TokenKind.TheVariants.{Name as IsName, Numeral as IsNumeral, Text as IsText, Relation as IsRelation, Symbol as IsSymbol}
 pub use Rattle.emp_lex.specs.Words.{of_words}
 use Rattle.gms_grammar.specs.declared.lexeme.Word.{Word}
-use Rattle.gms_grammar.specs.declared.lexeme.Word.TheVariants.{All, Using, Emp, Minimizing, Maximizing, Infinity, Square, Power, Low, High, Fixed, Level, Marginal, Other}
+use Rattle.gms_grammar.specs.declared.lexeme.Word.TheVariants.{All, Using, Emp, Mcp, Minimizing, Maximizing, Infinity, Square, Power, Low, High, Fixed, Level, Marginal, Other}
 use Rattle.gms_grammar.specs.declared.lexeme.Domain.TheVariants.{Free, Positive, Negative, Discrete}
 use Rattle.gms_grammar.specs.declared.lexeme.Sign.TheVariants.{Plus, Minus}
 use Rattle.gms_grammar.specs.declared.lexeme.Scale.TheVariants.{Times, Over}
@@ -28,7 +28,7 @@ keywords =
 -- the names that some rule asks for by their letters
 abbrev pub words : List (List ℕ × Word)
 words =
-    (codes "all", All) ∷ (codes "using", Using) ∷ (codes "emp", Emp) ∷ (codes "minimizing", Minimizing) ∷ (codes "maximizing", Maximizing) ∷ (codes "inf", Infinity)
+    (codes "all", All) ∷ (codes "using", Using) ∷ (codes "emp", Emp) ∷ (codes "mcp", Mcp) ∷ (codes "minimizing", Minimizing) ∷ (codes "maximizing", Maximizing) ∷ (codes "inf", Infinity)
     ∷ (codes "sqr", Square) ∷ (codes "power", Power) ∷ (codes "lo", Low) ∷ (codes "up", High) ∷ (codes "fx", Fixed) ∷ (codes "l", Level) ∷ (codes "m", Marginal) ∷ []
 
 abbrev pub word_sort : List ℕ → Sort

@@ -2,7 +2,9 @@
 use Rattle.std.specs.Prelude.{◌≡◌, Bool, true, false, cond, List, [], ◌∷◌, ◌++◌, Option, Some, None}
 use Rattle.emp_ast.specs.declared.model.Sense.{Sense}
 use Rattle.emp_ast.specs.declared.model.Sense.TheVariants.{Min, Max}
-use Rattle.gms_grammar.specs.declared.lexeme.Word.TheVariants.{All, Using, Emp, Minimizing, Maximizing, Infinity}
+use Rattle.gms_grammar.specs.declared.kind.Kind.{Kind}
+use Rattle.gms_grammar.specs.declared.kind.Kind.TheVariants.{Agents, Matches}
+use Rattle.gms_grammar.specs.declared.lexeme.Word.TheVariants.{All, Using, Emp, Mcp, Minimizing, Maximizing, Infinity}
 use Rattle.gms_grammar.specs.declared.lexeme.Domain.TheVariants.{Free}
 use Rattle.gms_grammar.specs.declared.lexeme.Sign.{Sign}
 use Rattle.gms_grammar.specs.declared.lexeme.Scale.TheVariants.{Over}
@@ -11,13 +13,13 @@ use Rattle.gms_grammar.specs.declared.lexeme.Sort.TheVariants.{Name, Numeral, Te
 use Rattle.gms_grammar.specs.declared.lexeme.Lexeme.{Lexeme}
 use Rattle.gms_grammar.specs.declared.limit.Limit.TheVariants.{At, Above}
 use Rattle.gms_grammar.specs.declared.item.Item.{Item}
-use Rattle.gms_grammar.specs.declared.item.Item.TheVariants.{Begins, Variable, Equation, Defines, Relates, Ends, Number, Name as NameItem, Enters, Lists, Applies, Groups, Raises, Signs, Joins, Sets, Model as ModelItem, Solves, Aims}
+use Rattle.gms_grammar.specs.declared.item.Item.TheVariants.{Begins, Variable, Equation, Defines, Relates, Ends, Number, Name as NameItem, Enters, Lists, Applies, Groups, Raises, Signs, Joins, Sets, Model as ModelItem, Match as MatchItem, Solves, Aims}
 use Rattle.gms_grammar.specs.declared.symbol.Declares.{Declares}
 use Rattle.gms_grammar.specs.declared.symbol.Declares.TheVariants.{Variables as ForVariables, Equations as ForEquations}
 use Rattle.gms_grammar.specs.declared.symbol.Want.{Want}
-use Rattle.gms_grammar.specs.declared.symbol.Want.TheVariants.{Variables as WantVariables, Equals as WantEquals, Slash as WantSlash, Using as WantUsing, Emp as WantEmp, Semicolon as WantSemicolon}
+use Rattle.gms_grammar.specs.declared.symbol.Want.TheVariants.{Variables as WantVariables, Equals as WantEquals, Slash as WantSlash, Using as WantUsing, Emp as WantEmp, Mcp as WantMcp, Dot as WantDot, Semicolon as WantSemicolon}
 use Rattle.gms_grammar.specs.declared.symbol.Symbol.{Symbol}
-use Rattle.gms_grammar.specs.declared.symbol.Symbol.TheVariants.{File, Semicolons, Single, Write, Names, OptionalText, MoreNames, AfterName, Attribute, Value, SignedValue, Comparison, ModelName, Everything, SolveName, Goal, Aim, Sum, Factor, AfterLeaf, MorePower, Exponent, MoreFactors, MoreTerms, MoreArguments, Closing}
+use Rattle.gms_grammar.specs.declared.symbol.Symbol.TheVariants.{File, Semicolons, Single, Write, Names, OptionalText, MoreNames, AfterName, Attribute, Value, SignedValue, Comparison, ModelName, Everything, MatchEquation, MatchVariable, MoreMatches, SolveName, Goal, Aim, Sum, Factor, AfterLeaf, MorePower, Exponent, MoreFactors, MoreTerms, MoreArguments, Closing}
 use Rattle.gms_grammar.specs.declared.symbol.Next.{Next}
 use Rattle.gms_grammar.specs.declared.symbol.Next.TheVariants.{Nothing, One, Two, Three, Four}
 use Rattle.gms_grammar.specs.declared.symbol.Move.{Move}
@@ -36,6 +38,8 @@ wanted WantEquals = Equals
 wanted WantSlash = Scaled Over
 wanted WantUsing = Name Using
 wanted WantEmp = Name Emp
+wanted WantMcp = Name Mcp
+wanted WantDot = Dot
 wanted WantSemicolon = Semicolon
 
 abbrev pub is_wanted : Want → Sort → Bool
@@ -44,6 +48,8 @@ is_wanted WantEquals Equals = true
 is_wanted WantSlash (Scaled Over) = true
 is_wanted WantUsing (Name Using) = true
 is_wanted WantEmp (Name Emp) = true
+is_wanted WantMcp (Name Mcp) = true
+is_wanted WantDot Dot = true
 is_wanted WantSemicolon Semicolon = true
 is_wanted want q = false
 
@@ -51,15 +57,15 @@ abbrev pub single_move : Want → Sort → Move
 single_move want q = cond (is_wanted want q) (Take None Nothing) Fail
 
 -- where a statement begins
-abbrev pub file_move : Sort → Lexeme → Move
-file_move Semicolon t = Take None (One File)
-file_move (DomainWord k) t = Take (Some (Begins k t)) (Three (Single WantVariables) (Names (ForVariables k)) File)
-file_move Variables t = Take (Some (Begins Free t)) (Two (Names (ForVariables Free)) File)
-file_move Equations t = Take None (Two (Names ForEquations) File)
-file_move Model t = Take None (Two ModelName File)
-file_move Solve t = Take None (Two SolveName Semicolons)
-file_move (Name w) t = Take None (Two (AfterName t) File)
-file_move q t = Fail
+abbrev pub file_move : Kind → Sort → Lexeme → Move
+file_move kind Semicolon t = Take None (One (File kind))
+file_move kind (DomainWord k) t = Take (Some (Begins k t)) (Three (Single WantVariables) (Names (ForVariables k)) (File kind))
+file_move kind Variables t = Take (Some (Begins Free t)) (Two (Names (ForVariables Free)) (File kind))
+file_move kind Equations t = Take None (Two (Names ForEquations) (File kind))
+file_move kind Model t = Take None (Two (ModelName kind) (File kind))
+file_move kind Solve t = Take None (Two (SolveName kind) Semicolons)
+file_move kind (Name w) t = Take None (Two (AfterName t) (File kind))
+file_move kind q t = Fail
 
 abbrev pub semicolons_move : Sort → Move
 semicolons_move Semicolon = Take None (One Semicolons)
@@ -103,17 +109,44 @@ abbrev pub comparison_move : Sort → Move
 comparison_move (Related r) = Take (Some (Relates r)) (Three Sum (Single WantSemicolon) (Write Ends))
 comparison_move q = Fail
 
-abbrev pub model_name_move : Sort → Lexeme → Move
-model_name_move (Name w) t = Take (Some (ModelItem t)) (Three OptionalText (Single WantSlash) Everything)
-model_name_move q t = Fail
+-- what the model statement names
+abbrev pub parts_of : Kind → Symbol
+parts_of Agents = Everything
+parts_of Matches = MatchEquation
+
+abbrev pub model_name_move : Kind → Sort → Lexeme → Move
+model_name_move kind (Name w) t = Take (Some (ModelItem t)) (Three OptionalText (Single WantSlash) (parts_of kind))
+model_name_move kind q t = Fail
 
 abbrev pub everything_move : Sort → Move
 everything_move (Name All) = Take None (Two (Single WantSlash) (Single WantSemicolon))
 everything_move q = Fail
 
-abbrev pub solve_name_move : Sort → Lexeme → Move
-solve_name_move (Name w) t = Take (Some (Solves t)) (Three (Single WantUsing) (Single WantEmp) Goal)
-solve_name_move q t = Fail
+abbrev pub match_equation_move : Sort → Lexeme → Move
+match_equation_move (Name w) t = Take None (Two (Single WantDot) (MatchVariable t))
+match_equation_move q t = Fail
+
+abbrev pub match_variable_move : Lexeme → Sort → Lexeme → Move
+match_variable_move e (Name w) t = Take (Some (MatchItem e t)) (One MoreMatches)
+match_variable_move e q t = Fail
+
+abbrev pub more_matches_move : Sort → Move
+more_matches_move Comma = Take None (One MatchEquation)
+more_matches_move (Scaled Over) = Take None (One (Single WantSemicolon))
+more_matches_move q = Fail
+
+abbrev pub solver_of : Kind → Want
+solver_of Agents = WantEmp
+solver_of Matches = WantMcp
+
+-- what ends the solve statement
+abbrev pub ending_of : Kind → Symbol
+ending_of Agents = Goal
+ending_of Matches = Single WantSemicolon
+
+abbrev pub solve_name_move : Kind → Sort → Lexeme → Move
+solve_name_move kind (Name w) t = Take (Some (Solves t)) (Three (Single WantUsing) (Single (solver_of kind)) (ending_of kind))
+solve_name_move kind q t = Fail
 
 abbrev pub goal_move : Sort → Move
 goal_move (Name Minimizing) = Take None (Two (Aim Min) (Single WantSemicolon))
@@ -169,7 +202,7 @@ closing_move q = Fail
 
 -- what the symbol does at a lexeme of that sort
 abbrev pub move : Symbol → Sort → Lexeme → Move
-move File q t = file_move q t
+move (File kind) q t = file_move kind q t
 move Semicolons q t = semicolons_move q
 move (Single want) q t = single_move want q
 move (Write item) q t = Skip (Some item)
@@ -181,9 +214,12 @@ move (Attribute n) q t = attribute_move n q t
 move (Value n a) q t = value_move n a q
 move (SignedValue n a s) q t = signed_value_move n a s q
 move Comparison q t = comparison_move q
-move ModelName q t = model_name_move q t
+move (ModelName kind) q t = model_name_move kind q t
 move Everything q t = everything_move q
-move SolveName q t = solve_name_move q t
+move MatchEquation q t = match_equation_move q t
+move (MatchVariable e) q t = match_variable_move e q t
+move MoreMatches q t = more_matches_move q
+move (SolveName kind) q t = solve_name_move kind q t
 move Goal q t = goal_move q
 move (Aim s) q t = aim_move s q t
 move Sum q t = sum_move q t

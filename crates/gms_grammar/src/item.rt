@@ -36,6 +36,8 @@ pub enum Item {
     /// A setting: whose, which, and to what.
     Sets(Lexeme, Lexeme, Limit),
     Model(Lexeme),
+    /// A match: the equation and the variable.
+    Match(Lexeme, Lexeme),
     Solves(Lexeme),
     /// The objective of the solve statement.
     Aims(Sense, Lexeme),

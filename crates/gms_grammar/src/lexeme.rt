@@ -10,6 +10,7 @@ pub enum Word {
     All,
     Using,
     Emp,
+    Mcp,
     Minimizing,
     Maximizing,
     /// `inf`

@@ -26,6 +26,7 @@ fn word_of(name: &[u8]) -> Word
             (b"all", Word::All),
             (b"using", Word::Using),
             (b"emp", Word::Emp),
+            (b"mcp", Word::Mcp),
             (b"minimizing", Word::Minimizing),
             (b"maximizing", Word::Maximizing),
             (b"inf", Word::Infinity),

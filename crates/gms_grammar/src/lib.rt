@@ -6,6 +6,7 @@
 
 pub mod fault;
 pub mod item;
+pub mod kind;
 pub mod lexeme;
 pub mod lexemes;
 pub mod limit;

@@ -7,9 +7,10 @@ ghost use Rattle.gms_grammar.specs.declared.symbol.Want.TheVariants.{Semicolon a
 ghost use Rattle.gms_grammar.specs.declared.symbol.Symbol.TheVariants.{Single, Write, Names, Aim, Factor, MoreFactors, MoreTerms};
 ghost use Rattle.gms_grammar.specs.declared.symbol.Next.TheVariants.{One, Two, Four};
 ghost use Rattle.gms_grammar.specs.declared.symbol.Move.TheVariants.{Take};
-ghost use Rattle.gms_grammar.specs.Machine.{declared, is_wanted, single_move, file_move, semicolons_move, names_move, optional_text_move, more_names_move, after_name_move, attribute_move, value_move, signed_value_move, comparison_move, model_name_move, everything_move, solve_name_move, goal_move, aim_move, sum_move, factor_move, after_leaf_move, more_power_move, exponent_move, more_factors_move, more_terms_move, more_arguments_move, closing_move, move as move_of};
+ghost use Rattle.gms_grammar.specs.Machine.{declared, is_wanted, single_move, file_move, semicolons_move, names_move, optional_text_move, more_names_move, after_name_move, attribute_move, value_move, signed_value_move, comparison_move, model_name_move, everything_move, match_equation_move, match_variable_move, more_matches_move, parts_of, solver_of, ending_of, solve_name_move, goal_move, aim_move, sum_move, factor_move, after_leaf_move, more_power_move, exponent_move, more_factors_move, more_terms_move, more_arguments_move, closing_move, move as move_of};
 
 use crate::item::Item;
+use crate::kind::Kind;
 use crate::lexeme::{Domain, Lexeme, Scale, Sign, Sort, Word};
 use crate::limit::Limit;
 use crate::symbol::{Declares, Move, Next, Symbol, Want};
@@ -37,6 +38,8 @@ fn is_wanted(want: Want, sort: Sort) -> bool
         | (Want::Slash, Sort::Scale(Scale::Over))
         | (Want::Using, Sort::Name(Word::Using))
         | (Want::Emp, Sort::Name(Word::Emp))
+        | (Want::Mcp, Sort::Name(Word::Mcp))
+        | (Want::Dot, Sort::Dot)
         | (Want::Semicolon, Sort::Semicolon) => true,
         _ => false,
     }
@@ -59,30 +62,30 @@ fn names_of(domain: Domain) -> Symbol
 }
 
 /// Where a statement begins.
-fn file_move(t: Lexeme) -> Move
-    ensures { result ≡ file_move t.sort t }
+fn file_move(kind: Kind, t: Lexeme) -> Move
+    ensures { result ≡ file_move kind t.sort t }
 {
     match t.sort {
-        Sort::Semicolon => Move::Take(None, Next::One(Symbol::File)),
+        Sort::Semicolon => Move::Take(None, Next::One(Symbol::File(kind))),
         Sort::Domain(domain) => Move::Take(
             Some(Item::Begins(domain, t)),
             Next::Three(
                 Symbol::Single(Want::Variables),
                 names_of(domain),
-                Symbol::File,
+                Symbol::File(kind),
             ),
         ),
         Sort::Variables => Move::Take(
             Some(Item::Begins(Domain::Free, t)),
-            Next::Two(names_of(Domain::Free), Symbol::File),
+            Next::Two(names_of(Domain::Free), Symbol::File(kind)),
         ),
         Sort::Equations => Move::Take(
             None,
-            Next::Two(Symbol::Names(Declares::Equations), Symbol::File),
+            Next::Two(Symbol::Names(Declares::Equations), Symbol::File(kind)),
         ),
-        Sort::Model => Move::Take(None, Next::Two(Symbol::ModelName, Symbol::File)),
-        Sort::Solve => Move::Take(None, Next::Two(Symbol::SolveName, Symbol::Semicolons)),
-        Sort::Name(_) => Move::Take(None, Next::Two(Symbol::AfterName(t), Symbol::File)),
+        Sort::Model => Move::Take(None, Next::Two(Symbol::ModelName(kind), Symbol::File(kind))),
+        Sort::Solve => Move::Take(None, Next::Two(Symbol::SolveName(kind), Symbol::Semicolons)),
+        Sort::Name(_) => Move::Take(None, Next::Two(Symbol::AfterName(t), Symbol::File(kind))),
         _ => Move::Fail,
     }
 }
@@ -220,8 +223,18 @@ fn comparison_move(sort: Sort) -> Move
 
 // ---- the model and solve statements
 
-fn model_name_move(t: Lexeme) -> Move
-    ensures { result ≡ model_name_move t.sort t }
+/// What the model statement names.
+fn parts_of(kind: Kind) -> Symbol
+    ensures { result ≡ parts_of kind }
+{
+    match kind {
+        Kind::Agents => Symbol::Everything,
+        Kind::Matches => Symbol::MatchEquation,
+    }
+}
+
+fn model_name_move(kind: Kind, t: Lexeme) -> Move
+    ensures { result ≡ model_name_move kind t.sort t }
 {
     match t.sort {
         Sort::Name(_) => Move::Take(
@@ -229,7 +242,7 @@ fn model_name_move(t: Lexeme) -> Move
             Next::Three(
                 Symbol::OptionalText,
                 Symbol::Single(Want::Slash),
-                Symbol::Everything,
+                parts_of(kind),
             ),
         ),
         _ => Move::Fail,
@@ -248,16 +261,69 @@ fn everything_move(sort: Sort) -> Move
     }
 }
 
-fn solve_name_move(t: Lexeme) -> Move
-    ensures { result ≡ solve_name_move t.sort t }
+fn match_equation_move(t: Lexeme) -> Move
+    ensures { result ≡ match_equation_move t.sort t }
+{
+    match t.sort {
+        Sort::Name(_) => Move::Take(
+            None,
+            Next::Two(Symbol::Single(Want::Dot), Symbol::MatchVariable(t)),
+        ),
+        _ => Move::Fail,
+    }
+}
+
+fn match_variable_move(equation: Lexeme, t: Lexeme) -> Move
+    ensures { result ≡ match_variable_move equation t.sort t }
+{
+    match t.sort {
+        Sort::Name(_) => Move::Take(
+            Some(Item::Match(equation, t)),
+            Next::One(Symbol::MoreMatches),
+        ),
+        _ => Move::Fail,
+    }
+}
+
+fn more_matches_move(sort: Sort) -> Move
+    ensures { result ≡ more_matches_move sort }
+{
+    match sort {
+        Sort::Comma => Move::Take(None, Next::One(Symbol::MatchEquation)),
+        Sort::Scale(Scale::Over) => Move::Take(None, Next::One(Symbol::Single(Want::Semicolon))),
+        _ => Move::Fail,
+    }
+}
+
+fn solver_of(kind: Kind) -> Want
+    ensures { result ≡ solver_of kind }
+{
+    match kind {
+        Kind::Agents => Want::Emp,
+        Kind::Matches => Want::Mcp,
+    }
+}
+
+/// What ends the solve statement.
+fn ending_of(kind: Kind) -> Symbol
+    ensures { result ≡ ending_of kind }
+{
+    match kind {
+        Kind::Agents => Symbol::Goal,
+        Kind::Matches => Symbol::Single(Want::Semicolon),
+    }
+}
+
+fn solve_name_move(kind: Kind, t: Lexeme) -> Move
+    ensures { result ≡ solve_name_move kind t.sort t }
 {
     match t.sort {
         Sort::Name(_) => Move::Take(
             Some(Item::Solves(t)),
             Next::Three(
                 Symbol::Single(Want::Using),
-                Symbol::Single(Want::Emp),
-                Symbol::Goal,
+                Symbol::Single(solver_of(kind)),
+                ending_of(kind),
             ),
         ),
         _ => Move::Fail,
@@ -452,7 +518,7 @@ pub fn move_at(top: Symbol, t: Lexeme) -> Move
     ensures { result ≡ move_of top t.sort t }
 {
     match top {
-        Symbol::File => file_move(t),
+        Symbol::File(kind) => file_move(kind, t),
         Symbol::Semicolons => semicolons_move(t.sort),
         Symbol::Single(want) => single_move(want, t.sort),
         Symbol::Write(item) => Move::Skip(Some(item)),
@@ -466,9 +532,12 @@ pub fn move_at(top: Symbol, t: Lexeme) -> Move
             signed_value_move(name, attribute, sign, t.sort)
         }
         Symbol::Comparison => comparison_move(t.sort),
-        Symbol::ModelName => model_name_move(t),
+        Symbol::ModelName(kind) => model_name_move(kind, t),
         Symbol::Everything => everything_move(t.sort),
-        Symbol::SolveName => solve_name_move(t),
+        Symbol::MatchEquation => match_equation_move(t),
+        Symbol::MatchVariable(equation) => match_variable_move(equation, t),
+        Symbol::MoreMatches => more_matches_move(t.sort),
+        Symbol::SolveName(kind) => solve_name_move(kind, t),
         Symbol::Goal => goal_move(t.sort),
         Symbol::Aim(sense) => aim_move(sense, t),
         Symbol::Sum => sum_move(t),

@@ -5,6 +5,7 @@ ghost use Rattle.gms_grammar.specs.Steps.{AreItems, RefusesLexemes};
 
 use crate::fault::ModelFault;
 use crate::item::Item;
+use crate::kind::Kind;
 use crate::lexeme::Lexeme;
 use crate::moves::move_at;
 use crate::symbol::{Move, Next, Symbol};
@@ -78,12 +79,17 @@ fn is_over(stack: &[Symbol]) -> bool
 /// Where they stand for none the fault is `Syntax`, at the first lexeme with which those up to it begin no grammatical text,
 /// or at `end`, the place behind the text, where all of them begin one.
 #[tactic(auto, using(crate::proofs::Places::parsing))]
-pub fn parse(alloc: Global, lexemes: &[Lexeme], end: Place) -> Result<Vec<Item>, ModelFault>
-    ensures { MatchResult result (λ v. AreItems lexemes.now v.items) (RefusesLexemes lexemes.now end) }
+pub fn parse(
+    alloc: Global,
+    kind: Kind,
+    lexemes: &[Lexeme],
+    end: Place,
+) -> Result<Vec<Item>, ModelFault>
+    ensures { MatchResult result (λ v. AreItems kind lexemes.now v.items) (RefusesLexemes kind lexemes.now end) }
 {
     let mut stack = Vec::new(alloc);
     let mut out = Vec::new(alloc);
-    stack.push(Symbol::File)?;
+    stack.push(Symbol::File(kind))?;
     for t in lexemes {
         if !advance(&mut stack, &mut out, *t)? {
             return Err(ModelFault::Syntax(t.place));

@@ -1,5 +1,6 @@
 //! What is still to come in a text, as the reader keeps it.
 use crate::item::Item;
+use crate::kind::Kind;
 use crate::lexeme::{Domain, Lexeme, Sign};
 use emp_ast::model::Sense;
 
@@ -18,6 +19,8 @@ pub enum Want {
     Slash,
     Using,
     Emp,
+    Mcp,
+    Dot,
     Semicolon,
 }
 
@@ -25,7 +28,7 @@ pub enum Want {
 #[derive(Clone, Copy, Debug)]
 pub enum Symbol {
     /// Statements up to the end.
-    File,
+    File(Kind),
     /// Nothing but `;` up to the end.
     Semicolons,
     Single(Want),
@@ -43,10 +46,16 @@ pub enum Symbol {
     SignedValue(Lexeme, Lexeme, Sign),
     /// A relation and the right side.
     Comparison,
-    ModelName,
+    ModelName(Kind),
     /// `all / ;`
     Everything,
-    SolveName,
+    /// A match and what comes behind it, with the `/ ;`.
+    MatchEquation,
+    /// The variable of a match, and what comes behind it.
+    MatchVariable(Lexeme),
+    /// Further matches or none, with the `/ ;`.
+    MoreMatches,
+    SolveName(Kind),
     /// An objective or none, with the `;`.
     Goal,
     Aim(Sense),

@@ -30,8 +30,8 @@ use Rattle.gms_read.specs.declared.table.Named.{Named}
 use Rattle.gms_read.specs.declared.table.Named.TheVariants.{Variable as VariableName, Equation as EquationName, Model as ModelName}
 use Rattle.gms_grammar.specs.declared.fault.ModelFault.{ModelFault}
 use Rattle.gms_grammar.specs.Lexemes.{spelling}
-use Rattle.gms_grammar.specs.Grammar.{Written, numeral, name, call, listed, grouped, raised, signed, joined, Statement, empty, variables, equations, definition, setting, model, solve}
-use Rattle.gms_read.specs.Rules.{Step, and_then, or_else, unless_fault, fault_where, entry_of, declared_as, variable_in, is_model, is_model_entry, is_none, small_whole, exponent, expression_fault, or_zero, second_exponent, meaning, tree_of, first_low, first_high, has_sign, no_variable, variable_at, with_variable, add_variable, add_equation, add_model, restrict, declare_by, declare_variable, declare_equation, declare_all, discrete_fault, declare_model, no_equation, equation_at, with_definition, definition_fault, equation_of, define, is_infinite, with_low, with_high, set_variable, set_equation, set_by, with_goal, aim_at, aim, after, nothing_yet}
+use Rattle.gms_grammar.specs.Grammar.{Written, numeral, name, call, listed, grouped, raised, signed, joined, Statement, empty, variables, equations, definition, setting, model, matched, solve}
+use Rattle.gms_read.specs.Rules.{Step, and_then, or_else, unless_fault, fault_where, entry_of, declared_as, variable_in, is_model, is_model_entry, is_none, small_whole, exponent, expression_fault, or_zero, second_exponent, meaning, tree_of, first_low, first_high, has_sign, no_variable, variable_at, with_variable, add_variable, add_equation, add_model, restrict, declare_by, declare_variable, declare_equation, declare_all, discrete_fault, declare_model, matches_fault, no_equation, equation_at, with_definition, definition_fault, equation_of, define, is_infinite, with_low, with_high, set_variable, set_equation, set_by, with_goal, aim_at, aim, after, nothing_yet}
 use Rattle.gms_print.proofs.Sound.{IsFree, IsValue, SoundExpression, SoundTree, SoundGoal}
 use Rattle.gms_print.proofs.GoodTexts.{HasValues, GoodSide, SoundLimit, FreeName, GoodStatement}
 
@@ -507,4 +507,5 @@ after_sound text d (equations names) h g = declare_all_sound (FreeName text) (de
 after_sound text d (definition t left r right) h g = define_sound text d h t left r right g.0 g.1
 after_sound text d (setting t a limit) h g = set_by_sound d t a limit (declared_as text d t) h g
 after_sound text d (model t) h g = declare_model_sound text d t h g
+after_sound text d (matched t qs) h g = then_sound (declare_model text d t) (λ e. unless_fault (matches_fault text e qs) (Ok e)) (declare_model_sound text d t h g) (λ e k. unless_one (matches_fault text e qs) (Ok e) k)
 after_sound text d (solve t goal) h g = end_sound (after text d (solve t goal)) (solve_sound text d t goal h)

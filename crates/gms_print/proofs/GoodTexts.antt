@@ -15,6 +15,7 @@ use Rattle.emp_lex.specs.declared.token.TokenKind.{TokenKind}
 use Rattle.emp_lex.specs.declared.token.TokenKind.TheVariants.{Name as NameKind, Numeral as NumeralKind, Text as TextKind, Relation as RelationKind, Symbol as SymbolKind}
 use Rattle.emp_lex.specs.Forms.{HasForm, IsFormed}
 use Rattle.emp_lex.proofs.TokenBytes.{tokens_formed}
+use Rattle.gms_grammar.specs.declared.kind.Kind.{Kind}
 use Rattle.gms_grammar.specs.declared.lexeme.Word.{Word}
 use Rattle.gms_grammar.specs.declared.lexeme.Word.TheVariants.{Other}
 use Rattle.gms_grammar.specs.declared.lexeme.Sign.{Sign}
@@ -27,7 +28,7 @@ use Rattle.gms_read.specs.declared.draft.Draft.{Draft}
 use Rattle.gms_grammar.specs.declared.limit.Limit.{Limit}
 use Rattle.gms_grammar.specs.declared.limit.Limit.TheVariants.{Below, At, Above}
 use Rattle.gms_grammar.specs.Lexemes.{of_words, words, keywords, word_sort, symbol_sort, IsSort, spelling, IsLexeme, AreLexemes}
-use Rattle.gms_grammar.specs.Grammar.{Written, numeral, name, call, listed, grouped, raised, signed, joined, Level, Sum, Stands, a_numeral, a_name, a_call, a_group, a_primary, a_power, a_factor, a_product, a_term, a_signed, a_sum, an_argument, arguments, IsEntry, bare, described, AreNames, first, next, next_behind_comma, signed_limit, IsUnsigned, finite, infinite, IsLimit, no_sign, with_sign, Statement, empty, variables, equations, definition, setting, model, solve, IsStatement, is_empty, is_variables, is_domain, is_equations, is_definition, is_setting, is_model}
+use Rattle.gms_grammar.specs.Grammar.{Written, numeral, name, call, listed, grouped, raised, signed, joined, Level, Sum, Stands, a_numeral, a_name, a_call, a_group, a_primary, a_power, a_factor, a_product, a_term, a_signed, a_sum, an_argument, arguments, IsEntry, bare, described, AreNames, first, next, next_behind_comma, signed_limit, IsUnsigned, finite, infinite, IsLimit, no_sign, with_sign, Statement, empty, variables, equations, definition, setting, model, matched, solve, AreMatches, one_match, more_matches, IsStatementOf, is_empty, is_variables, is_domain, is_equations, is_definition, is_setting, is_model, is_matched}
 use Rattle.gms_read.specs.Texts.{HasLexemes}
 use Rattle.gms_read.specs.Rules.{meaning}
 use Rattle.gms_print.proofs.Sound.{IsFree, IsValue, depth}
@@ -217,6 +218,7 @@ height (equations names) = 0
 height (definition t left r right) = max (nest left) (nest right)
 height (setting t a limit) = 0
 height (model t) = 0
+height (matched t qs) = 0
 height (solve t goal) = 0
 
 unsigned_rises : (t : Lexeme) (limit : Limit) → IsUnsigned t limit → Rises (t ∷ []) 0
@@ -230,7 +232,14 @@ limit_rises ts limit (with_sign k t s l i j) = rises_more k (t ∷ []) 0 (flat_s
 ended_rises : (ts : List Lexeme) (z : Lexeme) (k : ℕ) → z.sort ≡ Semicolon → Rises ts k → Rises (ts ++ z ∷ []) k
 ended_rises ts z k i r = rises_left ts (z ∷ []) k r (rises_one z (flat_sort z _ i (λ n. refl)))
 
-pub statement_rises : (ts : List Lexeme) (s : Statement) → IsStatement ts s → Rises ts (height s)
+matches_rise : (ts : List Lexeme) (qs : List (Lexeme × Lexeme)) → AreMatches ts qs → Rises ts 0
+matches_rise ts qs (one_match e d v i j k) = rises_more e (d ∷ v ∷ []) 0 (flat_sort e _ i.1 (λ n. refl)) (rises_more d (v ∷ []) 0 (flat_sort d _ j (λ n. refl)) (rises_one v (flat_sort v _ k.1 (λ n. refl))))
+matches_rise ts qs (more_matches e d v c us rs i j k l m) =
+    rises_more e (d ∷ v ∷ c ∷ us) 0 (flat_sort e _ i.1 (λ n. refl))
+    (rises_more d (v ∷ c ∷ us) 0 (flat_sort d _ j (λ n. refl))
+    (rises_more v (c ∷ us) 0 (flat_sort v _ k.1 (λ n. refl)) (rises_more c us 0 (flat_sort c _ l (λ n. refl)) (matches_rise us rs m))))
+
+pub statement_rises : {kind : Kind} (ts : List Lexeme) (s : Statement) → IsStatementOf kind ts s → Rises ts (height s)
 statement_rises ts s (is_empty z i) = rises_one z (flat_sort z _ i (λ n. refl))
 statement_rises ts s (is_variables v z us names i a j) = rises_more v (us ++ z ∷ []) 0 (flat_sort v _ i (λ n. refl)) (ended_rises us z 0 j (names_rise us names a))
 statement_rises ts s (is_domain d v z k us names h i a j) = rises_more d (v ∷ us ++ z ∷ []) 0 (flat_sort d _ h (λ n. refl)) (rises_more v (us ++ z ∷ []) 0 (flat_sort v _ i (λ n. refl)) (ended_rises us z 0 j (names_rise us names a)))
@@ -250,6 +259,11 @@ statement_rises ts s (is_model m a b c z us t i e j k l n) =
     (rises_more a (b ∷ c ∷ z ∷ []) 0 (flat_sort a _ j (λ n. refl))
     (rises_more b (c ∷ z ∷ []) 0 (flat_sort b _ k (λ n. refl))
     (rises_more c (z ∷ []) 0 (flat_sort c _ l (λ n. refl)) (rises_one z (flat_sort z _ n (λ n. refl)))))))
+statement_rises ts s (is_matched m a c z us vs t qs i e j k l n) =
+    rises_more m (us ++ a ∷ vs ++ c ∷ z ∷ []) 0 (flat_sort m _ i (λ n. refl))
+    (rises_left (us ++ a ∷ vs) (c ∷ z ∷ []) 0
+    (rises_left us (a ∷ vs) 0 (entry_rises us t e) (rises_more a vs 0 (flat_sort a _ j (λ n. refl)) (matches_rise vs qs k)))
+    (rises_more c (z ∷ []) 0 (flat_sort c _ l (λ n. refl)) (rises_one z (flat_sort z _ n (λ n. refl)))))
 
 -- declared names are free, numerals have their values, and expressions are shallow
 abbrev pub GoodStatement : List ℕ → Statement → Type 0
@@ -259,9 +273,10 @@ GoodStatement text (equations names) = Each (FreeName text) names
 GoodStatement text (definition t left r right) = GoodSide text left × GoodSide text right
 GoodStatement text (setting t a limit) = SoundLimit limit
 GoodStatement text (model t) = FreeName text t
+GoodStatement text (matched t qs) = FreeName text t
 GoodStatement text (solve t goal) = Unit {0}
 
-pub good_statement : (text : List ℕ) (ts : List Lexeme) (s : Statement) → IsStatement ts s → Each (IsGood text) ts → height s ≤ 64 → GoodStatement text s
+pub good_statement : {kind : Kind} (text : List ℕ) (ts : List Lexeme) (s : Statement) → IsStatementOf kind ts s → Each (IsGood text) ts → height s ≤ 64 → GoodStatement text s
 good_statement text ts s (is_empty z i) g l = tt
 good_statement text ts s (is_variables v z us names i a j) g l = names_free text us names a (each_parts (IsGood text) us (z ∷ []) g.1).0
 good_statement text ts s (is_domain d v z k us names h i a j) g l = names_free text us names a (each_parts (IsGood text) us (z ∷ []) g.1.1).0
@@ -273,3 +288,4 @@ good_statement text ts s (is_definition t d r z k us vs left right i j a e b m) 
     (good_side text us left a p.0 (omega arith), good_side text vs right b p.1.1 (omega arith))
 good_statement text ts s (is_setting t d a q z us limit i j k e b m) g l = sound_limit text us limit b (each_parts (IsGood text) us (z ∷ []) g.1.1.1.1).0
 good_statement text ts s (is_model m a b c z us t i e j k h n) g l = entry_free text us t e (each_parts (IsGood text) us (a ∷ b ∷ c ∷ z ∷ []) g.1).0
+good_statement text ts s (is_matched m a c z us vs t qs i e j k h n) g l = entry_free text us t e (each_parts (IsGood text) us (a ∷ vs) (each_parts (IsGood text) (us ++ a ∷ vs) (c ∷ z ∷ []) g.1).0).0

@@ -6,6 +6,7 @@ use Rattle.std.proofs.lemmas.List.Elements.{All-from_recursion}
 use Rattle.emp_ast.specs.declared.model.Equation.{Equation}
 use Rattle.emp_ast.specs.declared.model.Variable.{Variable}
 use Rattle.emp_ast.specs.declared.model.Model.{Model}
+use Rattle.gms_grammar.specs.declared.kind.Kind.{Kind}
 use Rattle.gms_grammar.specs.declared.lexeme.Lexeme.{Lexeme}
 use Rattle.gms_read.specs.declared.draft.Definition.{Definition}
 use Rattle.gms_read.specs.declared.draft.DraftEquation.{DraftEquation}
@@ -16,7 +17,7 @@ use Rattle.gms_grammar.specs.declared.limit.Limit.TheVariants.{Below, At, Above}
 use Rattle.gms_grammar.specs.declared.fault.ModelFault.{ModelFault}
 use Rattle.gms_grammar.specs.declared.fault.ModelFault.TheVariants.{Undefined}
 use Rattle.gms_grammar.specs.Nesting.{too_deep_from}
-use Rattle.gms_grammar.specs.Grammar.{Statement, solve, IsSolve, is_solve, IsFile, last, then}
+use Rattle.gms_grammar.specs.Grammar.{Statement, solve, IsSolveOf, is_solve, is_mcp, IsFileOf, last, then}
 use Rattle.gms_read.specs.Rules.{Step, and_then, or_else, is_none, after, after_all, nothing_yet, undefined_from, crosses, crossing_from, end_of, finished_variables, finished_equation, finished_equations, or_empty, finished, finish_by, finish, whole_meaning_by}
 use Rattle.emp_ast.specs.Names.{variable_names}
 use Rattle.gms_print.specs.ReadsBack.{HasText}
@@ -29,14 +30,15 @@ then_end : (r : Step) (following : Draft → Step) → SoundStep r → ((d : Dra
 then_end (Ok d) following h k = k d h
 then_end (Err f) following h k = tt
 
-last_end : (text : List ℕ) (d : Draft) (ts : List Lexeme) (s : Statement) → IsSolve ts s → IsSound d → SoundEnd (after_all text d (s ∷ []))
-last_end text d ts s (is_solve k t u e z us goal i j l m n o) h = same (after text d (solve t goal)) (solve_sound text d t goal h)
-  where
-    same : (r : Step) → SoundEnd r → SoundEnd (and_then r (λ e. Ok e))
-    same (Ok e) h = h
-    same (Err f) h = tt
+ends_alone : (r : Step) → SoundEnd r → SoundEnd (and_then r (λ e. Ok e))
+ends_alone (Ok e) h = h
+ends_alone (Err f) h = tt
 
-file_sound : (text : List ℕ) (ts : List Lexeme) (ss : List Statement) → IsFile ts ss → Each (IsGood text) ts → too_deep_from 0 ts ≡ None → (d : Draft) → IsSound d → SoundEnd (after_all text d ss)
+last_end : {kind : Kind} (text : List ℕ) (d : Draft) (ts : List Lexeme) (s : Statement) → IsSolveOf kind ts s → IsSound d → SoundEnd (after_all text d (s ∷ []))
+last_end text d ts s (is_solve k t u e z us goal i j l m n o) h = ends_alone (after text d (solve t goal)) (solve_sound text d t goal h)
+last_end text d ts s (is_mcp k t u e z i j l m n) h = ends_alone (after text d (solve t None)) (solve_sound text d t None h)
+
+file_sound : {kind : Kind} (text : List ℕ) (ts : List Lexeme) (ss : List Statement) → IsFileOf kind ts ss → Each (IsGood text) ts → too_deep_from 0 ts ≡ None → (d : Draft) → IsSound d → SoundEnd (after_all text d ss)
 file_sound text ts ss (last us zs s i z) g l d h = last_end text d us s i h
 file_sound text ts ss (then us vs s more i f) g l d h =
     let p = each_parts (IsGood text) us vs g in

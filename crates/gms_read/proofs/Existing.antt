@@ -15,6 +15,7 @@ use Rattle.emp_lex.specs.Tokens.{IsTokenList, IsFirstFault, IsTooWide, past, sta
 use Rattle.emp_lex.specs.Forms.{HasForm, IsFormed}
 use Rattle.emp_lex.proofs.TokenBytes.{tokens_formed}
 use Rattle.emp_lex.proofs.Existing.{numeral_exists, list_or_fault}
+use Rattle.gms_grammar.specs.declared.kind.Kind.{Kind}
 use Rattle.gms_grammar.specs.declared.lexeme.Sort.{Sort}
 use Rattle.gms_grammar.specs.declared.lexeme.Sort.TheVariants.{Numeral, Text, Relation}
 use Rattle.gms_grammar.specs.declared.lexeme.Lexeme.{Lexeme}
@@ -25,7 +26,7 @@ use Rattle.gms_grammar.specs.Lexemes.{IsSort, IsLexeme, AreLexemes, word_sort, r
 use Rattle.gms_grammar.specs.Nesting.{too_deep}
 use Rattle.gms_read.specs.Rules.{whole_meaning}
 use Rattle.gms_grammar.specs.Steps.{AreItems}
-use Rattle.gms_read.specs.Texts.{HasLexemes, HasStatements, IsModelText, HasFault}
+use Rattle.gms_read.specs.Texts.{HasLexemes, HasStatementsOf, GivesOf, HasFaultOf}
 use Rattle.gms_grammar.proofs.Sorts.{IsNarrow, tokens_narrow}
 use Rattle.gms_read.proofs.Reading.{rule_fault, meaning_rule}
 use Rattle.gms_grammar.proofs.Places.{Judged, right, wrong, judge}
@@ -55,39 +56,39 @@ lexemes_exist text (k ∷ ks) f n =
     (t.0 ∷ ts.0, (t.1, ts.1))
 
 -- ---- texts
-abbrev pub ModelOrFault : List ℕ → Type 0
-ModelOrFault text = ((m : Model) × IsModelText text m) ⊎ ((f : ModelFault) × HasFault text f)
+abbrev pub ModelOrFault : Kind → List ℕ → Type 0
+ModelOrFault kind text = ((m : Model) × GivesOf kind text (Ok m)) ⊎ ((f : ModelFault) × HasFaultOf kind text f)
 
-module _ (text : List ℕ) where
-  from_items : (ts : List Lexeme) (items : List Item) → HasLexemes text ts → too_deep ts ≡ None → AreItems ts items → ModelOrFault text
+module _ (kind : Kind) (text : List ℕ) where
+  from_items : (ts : List Lexeme) (items : List Item) → HasLexemes text ts → too_deep ts ≡ None → AreItems kind ts items → ModelOrFault kind text
   from_items ts items h d a = go (whole_meaning text a.statements) refl
     where
-      has : HasStatements text a.statements
+      has : HasStatementsOf kind text a.statements
       has = record { lexemes = ts; has = h; level = d; file = a.file }
 
-      go : (r : Result Model ModelFault) → whole_meaning text a.statements ≡ r → ModelOrFault text
+      go : (r : Result Model ModelFault) → whole_meaning text a.statements ≡ r → ModelOrFault kind text
       go (Ok m) e = inl (m, record { statements = a.statements; has = has; is = e })
-      go (Err f) e = inr (f, rule_fault text f (meaning_rule text a.statements f e) record { statements = a.statements; has = has; is = e })
+      go (Err f) e = inr (f, rule_fault kind text f (meaning_rule text a.statements f e) record { statements = a.statements; has = has; is = e })
 
-  from_lexemes : (ts : List Lexeme) → HasLexemes text ts → ModelOrFault text
+  from_lexemes : (ts : List Lexeme) → HasLexemes text ts → ModelOrFault kind text
   from_lexemes ts h = go (too_deep ts) refl
     where
-      judged : too_deep ts ≡ None → Judged ts (past start text) → ModelOrFault text
+      judged : too_deep ts ≡ None → Judged kind ts (past start text) → ModelOrFault kind text
       judged d (right items a) = from_items ts items h d a
       judged d (wrong p w) = inr (Syntax p, record { lexemes = ts; has = h; level = d; wrong = w })
 
-      go : (o : Option Place) → too_deep ts ≡ o → ModelOrFault text
+      go : (o : Option Place) → too_deep ts ≡ o → ModelOrFault kind text
       go (Some p) e = inr (TooLarge p, inl record { lexemes = ts; has = h; is = e })
-      go None e = judged e (judge ts (past start text))
+      go None e = judged e (judge kind ts (past start text))
 
-  from_tokens : (ks : List Token) → IsTokenList text ks → ModelOrFault text
+  from_tokens : (ks : List Token) → IsTokenList text ks → ModelOrFault kind text
   from_tokens ks h =
       let ts = lexemes_exist text ks (tokens_formed text ks h) (tokens_narrow text ks h) in
       from_lexemes ts.0 record { tokens = ks; cut = h; are = ts.1 }
 
-  pub model_or_fault : ModelOrFault text
+  pub model_or_fault : ModelOrFault kind text
   model_or_fault = go (list_or_fault text)
     where
-      go : ((ts : List Token) × IsTokenList text ts) ⊎ ((f : LexFault) × IsFirstFault text f) → ModelOrFault text
+      go : ((ts : List Token) × IsTokenList text ts) ⊎ ((f : LexFault) × IsFirstFault text f) → ModelOrFault kind text
       go (inl (ks, h)) = from_tokens ks h
       go (inr (f, h)) = inr (Lex f, h)

@@ -5,14 +5,16 @@ use Rattle.emp_ast.specs.declared.model.Model.{Model}
 use Rattle.emp_lex.specs.declared.fault.LexFault.{LexFault}
 use Rattle.emp_lex.specs.Tokens.{IsFirstFault, past, start}
 use Rattle.emp_lex.proofs.Lexing.{one_fault as one_token_fault}
+use Rattle.gms_grammar.specs.declared.kind.Kind.{Kind}
+use Rattle.gms_grammar.specs.declared.kind.Kind.TheVariants.{Agents}
 use Rattle.gms_grammar.specs.declared.lexeme.Lexeme.{Lexeme}
 use Rattle.gms_grammar.specs.declared.fault.ModelFault.{ModelFault}
 use Rattle.gms_grammar.specs.declared.fault.ModelFault.TheVariants.{Lex, Syntax, Undeclared, Twice, Discrete, Attribute, Function, TooLarge, Undefined, BoundsCross, NoMemory}
 use Rattle.gms_grammar.specs.Nesting.{too_deep}
-use Rattle.gms_grammar.specs.Grammar.{Statement, IsFile}
+use Rattle.gms_grammar.specs.Grammar.{Statement, IsFileOf}
 use Rattle.gms_grammar.specs.Syntax.{IsWrongAt}
 use Rattle.gms_read.specs.Rules.{whole_meaning, whole_meaning_by}
-use Rattle.gms_read.specs.Texts.{HasLexemes, HasStatements, Gives, IsModelText, IsTooDeep, IsUngrammatical, HasFault}
+use Rattle.gms_read.specs.Texts.{HasLexemes, HasStatementsOf, GivesOf, IsTooDeep, IsUngrammatical, HasFaultOf}
 use Rattle.gms_read.specs.Laws.{OneModel}
 use Rattle.gms_read.proofs.OneText.{one_lexemes, none_with_fault}
 use Rattle.gms_grammar.proofs.Agree.{one_items}
@@ -20,14 +22,14 @@ use Rattle.gms_grammar.proofs.Places.{one_place, not_wrong}
 use Rattle.gms_read.proofs.Existing.{model_or_fault}
 use Rattle.gms_read.proofs.Performed.{same_drafts}
 
-one_meaning_of : (text : List ℕ) (ss us : List Statement) → HasStatements text ss → HasStatements text us → whole_meaning text ss ≡ whole_meaning text us
-one_meaning_of text ss us g h =
+one_meaning_of : (kind : Kind) (text : List ℕ) (ss us : List Statement) → HasStatementsOf kind text ss → HasStatementsOf kind text us → whole_meaning text ss ≡ whole_meaning text us
+one_meaning_of kind text ss us g h =
     let e = one_lexemes text h.lexemes g.lexemes h.has g.has in
-    let file : IsFile g.lexemes us = subst (λ ts. IsFile ts us) e h.file in
-    ap whole_meaning_by (same_drafts text g.lexemes g.lexemes ss us g.file file (one_items g.lexemes ss us g.file file))
+    let file : IsFileOf kind g.lexemes us = subst (λ ts. IsFileOf kind ts us) e h.file in
+    ap whole_meaning_by (same_drafts text g.lexemes g.lexemes ss us g.file file (one_items kind g.lexemes ss us g.file file))
 
-pub one_meaning : (text : List ℕ) (r q : Result Model ModelFault) → Gives text r → Gives text q → r ≡ q
-one_meaning text r q g h = sym g.is ∙ one_meaning_of text g.statements h.statements g.has h.has ∙ h.is
+pub one_meaning : (kind : Kind) (text : List ℕ) (r q : Result Model ModelFault) → GivesOf kind text r → GivesOf kind text q → r ≡ q
+one_meaning kind text r q g h = sym g.is ∙ one_meaning_of kind text g.statements h.statements g.has h.has ∙ h.is
 
 abbrev given : Model → Result Model ModelFault
 given m = Ok m
@@ -51,34 +53,34 @@ none_some : (p : Place) (o : Option Place) → o ≡ None → o ≡ Some p → �
 none_some p o e h = cc
 
 -- ---- the layers that find faults
-data View (text : List ℕ) (f : ModelFault) : Type 0 where
-  of_tokens : (g : LexFault) → f ≡ Lex g → IsFirstFault text g → View text f
-  of_levels : (p : Place) → f ≡ TooLarge p → IsTooDeep text p → View text f
-  of_grammar : (p : Place) → f ≡ Syntax p → IsUngrammatical text p → View text f
-  of_rules : Gives text (Err f) → View text f
+data View (kind : Kind) (text : List ℕ) (f : ModelFault) : Type 0 where
+  of_tokens : (g : LexFault) → f ≡ Lex g → IsFirstFault text g → View kind text f
+  of_levels : (p : Place) → f ≡ TooLarge p → IsTooDeep text p → View kind text f
+  of_grammar : (p : Place) → f ≡ Syntax p → IsUngrammatical kind text p → View kind text f
+  of_rules : GivesOf kind text (Err f) → View kind text f
 
-view : (text : List ℕ) (f : ModelFault) → HasFault text f → View text f
-view text (Lex g) h = of_tokens g refl h
-view text (Syntax p) h = of_grammar p refl h
-view text (Undeclared p) h = of_rules h
-view text (Twice p) h = of_rules h
-view text (Discrete p) h = of_rules h
-view text (Attribute p) h = of_rules h
-view text (Function p) h = of_rules h
-view text (TooLarge p) (inl h) = of_levels p refl h
-view text (TooLarge p) (inr h) = of_rules h
-view text (Undefined e n) h = of_rules h
-view text (BoundsCross v n) h = of_rules h
-view text NoMemory h = absurd h
+view : (kind : Kind) (text : List ℕ) (f : ModelFault) → HasFaultOf kind text f → View kind text f
+view kind text (Lex g) h = of_tokens g refl h
+view kind text (Syntax p) h = of_grammar p refl h
+view kind text (Undeclared p) h = of_rules h
+view kind text (Twice p) h = of_rules h
+view kind text (Discrete p) h = of_rules h
+view kind text (Attribute p) h = of_rules h
+view kind text (Function p) h = of_rules h
+view kind text (TooLarge p) (inl h) = of_levels p refl h
+view kind text (TooLarge p) (inr h) = of_rules h
+view kind text (Undefined e n) h = of_rules h
+view kind text (BoundsCross v n) h = of_rules h
+view kind text NoMemory h = absurd h
 
-module _ (text : List ℕ) where
+module _ (kind : Kind) (text : List ℕ) where
   levels : (ts us : List Lexeme) (p : Place) → HasLexemes text ts → HasLexemes text us → too_deep ts ≡ Some p → too_deep us ≡ None → ⊥
   levels ts us p g h e n = none_some p (too_deep us) n (ap too_deep (one_lexemes text us ts h g) ∙ e)
 
-  wrong : (p : Place) (ss : List Statement) → IsUngrammatical text p → HasStatements text ss → ⊥
-  wrong p ss h k = not_wrong k.lexemes ss (past start text) p k.file (subst (λ ts. IsWrongAt ts (past start text) p) (one_lexemes text h.lexemes k.lexemes h.has k.has) h.wrong)
+  wrong : (p : Place) (ss : List Statement) → IsUngrammatical kind text p → HasStatementsOf kind text ss → ⊥
+  wrong p ss h k = not_wrong kind k.lexemes ss (past start text) p k.file (subst (λ ts. IsWrongAt kind ts (past start text) p) (one_lexemes text h.lexemes k.lexemes h.has k.has) h.wrong)
 
-  same : (f g : ModelFault) → View text f → View text g → f ≡ g
+  same : (f g : ModelFault) → View kind text f → View kind text g → f ≡ g
   same f g (of_tokens a e h) (of_tokens b i k) = e ∙ ap Lex (one_token_fault text a b h k) ∙ sym i
   same f g (of_tokens a e h) (of_levels q i k) = absurd (none_with_fault text k.lexemes a k.has h)
   same f g (of_tokens a e h) (of_grammar q i k) = absurd (none_with_fault text k.lexemes a k.has h)
@@ -90,23 +92,23 @@ module _ (text : List ℕ) where
   same f g (of_grammar p e h) (of_tokens b i k) = absurd (none_with_fault text h.lexemes b h.has k)
   same f g (of_grammar p e h) (of_levels q i k) = absurd (levels k.lexemes h.lexemes q k.has h.has k.is h.level)
   same f g (of_grammar p e h) (of_grammar q i k) =
-      e ∙ ap Syntax (one_place k.lexemes (past start text) p q (subst (λ ts. IsWrongAt ts (past start text) p) (one_lexemes text h.lexemes k.lexemes h.has k.has) h.wrong) k.wrong) ∙ sym i
+      e ∙ ap Syntax (one_place kind k.lexemes (past start text) p q (subst (λ ts. IsWrongAt kind ts (past start text) p) (one_lexemes text h.lexemes k.lexemes h.has k.has) h.wrong) k.wrong) ∙ sym i
   same f g (of_grammar p e h) (of_rules k) = absurd (wrong p k.statements h k.has)
   same f g (of_rules h) (of_tokens b i k) = absurd (none_with_fault text h.has.lexemes b h.has.has k)
   same f g (of_rules h) (of_levels q i k) = absurd (levels k.lexemes h.has.lexemes q k.has h.has.has k.is h.has.level)
   same f g (of_rules h) (of_grammar q i k) = absurd (wrong q h.statements k h.has)
-  same f g (of_rules h) (of_rules k) = err_one f g (one_meaning text (Err f) (Err g) h k)
+  same f g (of_rules h) (of_rules k) = err_one f g (one_meaning kind text (Err f) (Err g) h k)
 
-  model_or : (m : Model) (f : ModelFault) → IsModelText text m → View text f → ⊥
+  model_or : (m : Model) (f : ModelFault) → GivesOf kind text (Ok m) → View kind text f → ⊥
   model_or m f g (of_tokens a e h) = none_with_fault text g.has.lexemes a g.has.has h
   model_or m f g (of_levels p e h) = levels h.lexemes g.has.lexemes p h.has g.has.has h.is g.has.level
   model_or m f g (of_grammar p e h) = wrong p g.statements h g.has
-  model_or m f g (of_rules h) = ok_err m f (one_meaning text (Ok m) (Err f) g h)
+  model_or m f g (of_rules h) = ok_err m f (one_meaning kind text (Ok m) (Err f) g h)
 
 pub one_model : OneModel
 one_model = record {
-  some = model_or_fault;
-  one = λ text m n g h. ok_one m n (one_meaning text (Ok m) (Ok n) g h);
-  one_fault = λ text f g h k. same text f g (view text f h) (view text g k);
-  not_both = λ text m f g h. model_or text m f g (view text f h);
+  some = model_or_fault Agents;
+  one = λ text m n g h. ok_one m n (one_meaning Agents text (Ok m) (Ok n) g h);
+  one_fault = λ text f g h k. same Agents text f g (view Agents text f h) (view Agents text g k);
+  not_both = λ text m f g h. model_or Agents text m f g (view Agents text f h);
 }

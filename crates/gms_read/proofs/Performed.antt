@@ -8,22 +8,23 @@ use Rattle.emp_ast.specs.Nodes.{root, nodes_from}
 use Rattle.emp_ast.specs.Trees.{tree_from}
 use Rattle.emp_ast.proofs.Trees.{tree_from_is}
 use Rattle.emp_ast.specs.declared.model.Sense.{Sense}
+use Rattle.gms_grammar.specs.declared.kind.Kind.{Kind}
 use Rattle.gms_grammar.specs.declared.lexeme.Domain.TheVariants.{Free, Positive, Negative, Discrete as DiscreteWord}
 use Rattle.gms_grammar.specs.declared.lexeme.Lexeme.{Lexeme}
 use Rattle.gms_grammar.specs.declared.item.Item.{Item}
-use Rattle.gms_grammar.specs.declared.item.Item.TheVariants.{Variable, Equation, Relates, Ends, Aims}
+use Rattle.gms_grammar.specs.declared.item.Item.TheVariants.{Variable, Equation, Relates, Ends, Match, Aims}
 use Rattle.gms_read.specs.declared.draft.Draft.{Draft}
 use Rattle.gms_grammar.specs.declared.fault.ModelFault.{ModelFault}
 use Rattle.gms_grammar.specs.declared.fault.ModelFault.TheVariants.{Undeclared, NoMemory}
 use Rattle.gms_read.specs.declared.progress.Second.TheVariants.{Absent}
 use Rattle.gms_read.specs.declared.progress.Side.{Side}
 use Rattle.gms_read.specs.declared.progress.Progress.{Progress}
-use Rattle.gms_grammar.specs.Grammar.{Written, Statement, empty, variables, equations, definition, setting, model, solve, IsFile}
+use Rattle.gms_grammar.specs.Grammar.{Written, Statement, empty, variables, equations, definition, setting, model, matched, solve, IsFileOf}
 use Rattle.gms_grammar.specs.Items.{written_items, statement_items, items_of}
 use Rattle.gms_read.specs.Steps.{DraftsAll}
-use Rattle.gms_read.specs.Rules.{Step, and_then, or_else, unless_fault, or_zero, equation_of, variable_of, declared_as, is_model, expression_fault, meaning, places, tree_of, definition_fault, with_definition, define, declare_variable, declare_equation, declare_model, declare_all, set_by, with_goal, aim_at, aim, after, after_all, nothing_yet}
+use Rattle.gms_read.specs.Rules.{Step, and_then, or_else, unless_fault, or_zero, equation_of, variable_of, declared_as, is_model, expression_fault, meaning, places, tree_of, definition_fault, with_definition, define, declare_variable, declare_equation, declare_model, match_fault, matches_fault, declare_all, set_by, with_goal, aim_at, aim, after, after_all, nothing_yet}
 use Rattle.gms_read.specs.Sides.{no_side}
-use Rattle.gms_read.specs.Performing.{idle, with_equation, define_by, ended, on_draft, begun_by, solved, item_step, next_step, all_steps}
+use Rattle.gms_read.specs.Performing.{idle, with_equation, define_by, ended, on_draft, begun_by, begun_variables, solved, item_step, next_step, all_steps}
 use Rattle.gms_grammar.proofs.Formed.{IsFormed, IsFormedStatement, AreFormed, formed_file}
 use Rattle.gms_read.proofs.Expressions.{unless, read_written}
 
@@ -95,6 +96,22 @@ perform_solve text d t (Some (s, u)) rest = go (is_model text d t)
         aims None = refl
         aims (Some k) = refl
 
+-- ---- matches
+perform_matches : (text : List ℕ) (d : Draft) (qs : List (Lexeme × Lexeme)) (rest : List Item) → all_steps text (idle d) (map (λ q. Match q.0 q.1) qs ++ rest) ≡ go_on (unless_fault (matches_fault text d qs) (Ok d)) (λ e. all_steps text (idle e) rest)
+perform_matches text d [] rest = refl
+perform_matches text d (q ∷ qs) rest = go (match_fault text d q) (perform_matches text d qs rest)
+  where
+    go : (o : Option ModelFault) → all_steps text (idle d) (map (λ q. Match q.0 q.1) qs ++ rest) ≡ go_on (unless_fault (matches_fault text d qs) (Ok d)) (λ e. all_steps text (idle e) rest) → next_step (begun_variables (idle d) o) (λ p. all_steps text p (map (λ q. Match q.0 q.1) qs ++ rest)) ≡ go_on (unless_fault (or_else o (matches_fault text d qs)) (Ok d)) (λ e. all_steps text (idle e) rest)
+    go None h = h
+    go (Some f) h = refl
+
+perform_matched : (text : List ℕ) (d : Draft) (t : Lexeme) (qs : List (Lexeme × Lexeme)) (rest : List Item) → all_steps text (idle d) (statement_items (matched t qs) ++ rest) ≡ go_on (after text d (matched t qs)) (λ e. all_steps text (idle e) rest)
+perform_matched text d t qs rest = one_step text d (declare_model text d t) (map (λ q. Match q.0 q.1) qs ++ rest) ∙ go (declare_model text d t)
+  where
+    go : (r : Step) → go_on r (λ e. all_steps text (idle e) (map (λ q. Match q.0 q.1) qs ++ rest)) ≡ go_on (and_then r (λ e. unless_fault (matches_fault text e qs) (Ok e))) (λ e. all_steps text (idle e) rest)
+    go (Ok e) = perform_matches text e qs rest
+    go (Err f) = refl
+
 -- ---- statements
 perform_statement : (text : List ℕ) (d : Draft) (s : Statement) → IsFormedStatement s → (rest : List Item) → all_steps text (idle d) (statement_items s ++ rest) ≡ go_on (after text d s) (λ e. all_steps text (idle e) rest)
 perform_statement text d empty h rest = refl
@@ -106,6 +123,7 @@ perform_statement text d (equations names) h rest = each_step text (declare_equa
 perform_statement text d (definition t left r right) h rest = perform_definition text d t left right r h.0 h.1 rest
 perform_statement text d (setting t a limit) h rest = one_step text d (set_by d t a limit (declared_as text d t)) rest
 perform_statement text d (model t) h rest = one_step text d (declare_model text d t) rest
+perform_statement text d (matched t qs) h rest = perform_matched text d t qs rest
 perform_statement text d (solve t goal) h rest = perform_solve text d t goal rest
 
 perform_statements : (text : List ℕ) (ss : List Statement) → AreFormed ss → (d : Draft) → all_steps text (idle d) (items_of ss) ≡ go_on (after_all text d ss) (λ e. Ok (idle e))
@@ -126,20 +144,20 @@ draft_of_idle (Ok d) = refl
 draft_of_idle (Err f) = refl
 
 -- what the statements do is what their items do
-pub after_items : (text : List ℕ) (ts : List Lexeme) (ss : List Statement) → IsFile ts ss → after_all text nothing_yet ss ≡ draft_of (all_steps text (idle nothing_yet) (items_of ss))
+pub after_items : {k : Kind} (text : List ℕ) (ts : List Lexeme) (ss : List Statement) → IsFileOf k ts ss → after_all text nothing_yet ss ≡ draft_of (all_steps text (idle nothing_yet) (items_of ss))
 after_items text ts ss h = sym (ap draft_of (perform_statements text ss (formed_file h) nothing_yet) ∙ draft_of_idle (after_all text nothing_yet ss))
 
 -- statements with the same items do the same
-pub same_drafts : (text : List ℕ) (ts us : List Lexeme) (ss tt : List Statement) → IsFile ts ss → IsFile us tt → items_of ss ≡ items_of tt → after_all text nothing_yet ss ≡ after_all text nothing_yet tt
+pub same_drafts : {k : Kind} (text : List ℕ) (ts us : List Lexeme) (ss tt : List Statement) → IsFileOf k ts ss → IsFileOf k us tt → items_of ss ≡ items_of tt → after_all text nothing_yet ss ≡ after_all text nothing_yet tt
 same_drafts text ts us ss tt h k e =
     after_items text ts ss h ∙ ap (λ is. draft_of (all_steps text (idle nothing_yet) is)) e ∙ sym (after_items text us tt k)
 
 -- ---- the loop
-pub drafts_ok : (text : List ℕ) (items : List Item) (p : Progress) → all_steps text (idle nothing_yet) items ≡ Ok p → DraftsAll text items (Ok p.draft)
-drafts_ok text items p e ts ss h k = after_items text ts ss h ∙ ap (λ is. draft_of (all_steps text (idle nothing_yet) is)) (sym k) ∙ ap draft_of e
+pub drafts_ok : (text : List ℕ) (items : List Item) (p : Progress) → all_steps text (idle nothing_yet) items ≡ Ok p → (k : Kind) → DraftsAll k text items (Ok p.draft)
+drafts_ok text items p e kind ts ss h k = after_items text ts ss h ∙ ap (λ is. draft_of (all_steps text (idle nothing_yet) is)) (sym k) ∙ ap draft_of e
 
-pub drafts_err : (text : List ℕ) (items : List Item) (f : ModelFault) → all_steps text (idle nothing_yet) items ≡ Err f → DraftsAll text items (Err f)
-drafts_err text items f e = inr (λ ts ss h k. after_items text ts ss h ∙ ap (λ is. draft_of (all_steps text (idle nothing_yet) is)) (sym k) ∙ ap draft_of e)
+pub drafts_err : (text : List ℕ) (items : List Item) (f : ModelFault) → all_steps text (idle nothing_yet) items ≡ Err f → (k : Kind) → DraftsAll k text items (Err f)
+drafts_err text items f e kind = inr (λ ts ss h k. after_items text ts ss h ∙ ap (λ is. draft_of (all_steps text (idle nothing_yet) is)) (sym k) ∙ ap draft_of e)
 
 -- the items behind one
 items_behind : (is : List Item) (k : ℕ) → slice_range is k (length is) ≡ drop k is
@@ -161,10 +179,10 @@ pub steps_all : (text : List ℕ) (p : Progress) (is : List Item) (k : ℕ) → 
 steps_all text p is k h = at_drop_all (all_steps text p) is k h
 
 -- the fault of a step is that of the whole
-pub drafts_fault : (text : List ℕ) (p : Progress) (is : List Item) (k : ℕ) (i : Item) (f : ModelFault) (r : Result Draft ModelFault) → IsErrAnd r (λ g. g ≡ f) → k < length is → i ≡ get_or is k i → (f ≡ NoMemory) ⊎ (item_step text p i (slice_range is (k + 1) (length is)) ≡ Err f) → all_steps text p (drop k is) ≡ all_steps text (idle nothing_yet) is → DraftsAll text is r
-drafts_fault text p is k i f (Ok d) g h e m s = absurd g
-drafts_fault text p is k i f (Err z) g h e (inl m) s = inl (g ∙ m)
-drafts_fault text p is k i f (Err z) g h e (inr m) s = drafts_err text is z (sym s ∙ steps_err text p is k i f h e m ∙ ap Err (sym g))
+pub drafts_fault : (text : List ℕ) (p : Progress) (is : List Item) (k : ℕ) (i : Item) (f : ModelFault) (r : Result Draft ModelFault) → IsErrAnd r (λ g. g ≡ f) → k < length is → i ≡ get_or is k i → (f ≡ NoMemory) ⊎ (item_step text p i (slice_range is (k + 1) (length is)) ≡ Err f) → all_steps text p (drop k is) ≡ all_steps text (idle nothing_yet) is → (kind : Kind) → DraftsAll kind text is r
+drafts_fault text p is k i f (Ok d) g h e m s kind = absurd g
+drafts_fault text p is k i f (Err z) g h e (inl m) s kind = inl (g ∙ m)
+drafts_fault text p is k i f (Err z) g h e (inr m) s kind = drafts_err text is z (sym s ∙ steps_err text p is k i f h e m ∙ ap Err (sym g)) kind
 
 pub ruleset performing = (steps_more, steps_all, drafts_ok)
 

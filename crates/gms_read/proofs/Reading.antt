@@ -6,6 +6,7 @@ use Rattle.emp_ast.specs.declared.model.Model.{Model as WholeModel}
 use Rattle.emp_ast.specs.declared.model.Sense.{Sense}
 use Rattle.emp_lex.specs.declared.token.Token.{Token}
 use Rattle.emp_lex.specs.Tokens.{IsTokenList}
+use Rattle.gms_grammar.specs.declared.kind.Kind.{Kind}
 use Rattle.gms_grammar.specs.declared.lexeme.Lexeme.{Lexeme}
 use Rattle.gms_grammar.specs.declared.lexeme.Domain.{Domain}
 use Rattle.gms_grammar.specs.declared.lexeme.Domain.TheVariants.{Free, Positive, Negative, Discrete as DiscreteWord}
@@ -23,11 +24,11 @@ use Rattle.gms_grammar.specs.declared.fault.ModelFault.TheVariants.{Lex, Syntax,
 use Rattle.gms_read.specs.declared.draft.DraftEquation.{DraftEquation}
 use Rattle.gms_grammar.specs.Lexemes.{AreLexemes}
 use Rattle.gms_grammar.specs.Nesting.{too_deep}
-use Rattle.gms_grammar.specs.Grammar.{Written, numeral, name, call, listed, grouped, raised, signed, joined, Statement, empty, variables, equations, definition, setting, model, solve}
-use Rattle.gms_read.specs.Rules.{Step, most, is_none, has_sign, first_low, first_high, variable_at, with_variable, add_variable, add_equation, add_model, is_infinite, with_low, with_high, is_model, crosses, and_then, or_else, unless_fault, fault_where, expression_fault, declare_by, declare_variable, declare_equation, declare_all, discrete_fault, definition_fault, set_variable, set_equation, set_by, aim_at, aim, after, after_all, nothing_yet, undefined_from, crossing_from, finish_by, finish, whole_meaning_by, whole_meaning, declared_as, variable_of, equation_of}
-use Rattle.gms_read.specs.Texts.{HasLexemes, Gives, IsModelText, HasFault, RefusesModel}
+use Rattle.gms_grammar.specs.Grammar.{Written, numeral, name, call, listed, grouped, raised, signed, joined, Statement, empty, variables, equations, definition, setting, model, matched, solve}
+use Rattle.gms_read.specs.Rules.{Step, most, is_none, has_sign, first_low, first_high, variable_at, with_variable, add_variable, add_equation, add_model, is_infinite, with_low, with_high, is_model, crosses, and_then, or_else, unless_fault, fault_where, expression_fault, declare_by, declare_variable, declare_equation, declare_all, discrete_fault, definition_fault, set_variable, set_equation, set_by, aim_at, aim, match_fault, matches_fault, declare_model, after, after_all, nothing_yet, undefined_from, crossing_from, finish_by, finish, whole_meaning_by, whole_meaning, declared_as, variable_of, equation_of}
+use Rattle.gms_read.specs.Texts.{HasLexemes, GivesOf, HasFaultOf, RefusesModelOf}
 use Rattle.gms_grammar.specs.Steps.{AreItems}
-use Rattle.gms_read.specs.Steps.{DraftsAll, FinishesAs}
+use Rattle.gms_read.specs.Steps.{DraftsAll, FinishesAs, HasDraft}
 
 -- ---- the faults that rules have
 -- no fault of tokens or of the grammar
@@ -128,6 +129,16 @@ aim_rule : (text : List ℕ) (d : Draft) (goal : Option (Sense × Lexeme)) → M
 aim_rule text d None = tt
 aim_rule text d (Some g) = aim_at_rule d g.0 g.1 (variable_of text d g.1)
 
+match_rule : (text : List ℕ) (d : Draft) (qs : List (Lexeme × Lexeme)) → MayFault (matches_fault text d qs)
+match_rule text d [] = tt
+match_rule text d (q ∷ qs) =
+    either (match_fault text d q) (matches_fault text d qs)
+    (either (fault_where (is_none (equation_of text d q.0)) (Undeclared q.0.place)) (fault_where (is_none (variable_of text d q.1)) (Undeclared q.1.place)) (where_fault (is_none (equation_of text d q.0)) (Undeclared q.0.place) tt) (where_fault (is_none (variable_of text d q.1)) (Undeclared q.1.place) tt))
+    (match_rule text d qs)
+
+model_rule : (text : List ℕ) (d : Draft) (t : Lexeme) → MayStep (declare_model text d t)
+model_rule text d t = step_of (is_none d.model && is_none (declared_as text d t)) (Ok (add_model text d t)) (Err (Twice t.place)) tt tt
+
 after_rule : (text : List ℕ) (d : Draft) (s : Statement) → MayStep (after text d s)
 after_rule text d empty = tt
 after_rule text d (variables k w names) = unless _ _ (discrete_rule k w) (all_rule (declare_variable text k) (λ e t. variable_rule text k e t (declared_as text e t)) d names)
@@ -135,7 +146,8 @@ after_rule text d (equations names) = all_rule (declare_equation text) (equation
 after_rule text d (definition t left r right) =
     unless _ _ (either _ _ (definition_rule d t (equation_of text d t)) (either _ _ (expression_rule text d left) (expression_rule text d right))) tt
 after_rule text d (setting t a limit) = set_rule d t a limit (declared_as text d t)
-after_rule text d (model t) = step_of (is_none d.model && is_none (declared_as text d t)) (Ok (add_model text d t)) (Err (Twice t.place)) tt tt
+after_rule text d (model t) = model_rule text d t
+after_rule text d (matched t qs) = both (declare_model text d t) (λ e. unless_fault (matches_fault text e qs) (Ok e)) (model_rule text d t) (λ e. unless (matches_fault text e qs) (Ok e) (match_rule text e qs) tt)
 after_rule text d (solve t goal) = step_of (is_model text d t) (aim text d goal) (Err (Undeclared t.place)) (aim_rule text d goal) tt
 
 after_all_rule : (text : List ℕ) (d : Draft) (ss : List Statement) → MayStep (after_all text d ss)
@@ -172,52 +184,61 @@ meaning_rule text ss f e = go (after_all text nothing_yet ss) (after_all_rule te
     go (Err g) h k = step_fault (Err g) f h (let q : ◌≡◌ {A = Result WholeModel ModelFault} (Err g) (Err f) = k in cc)
     go (Ok d) h k = finish_rule _ d f (either _ _ (undefined_rule 0 d.equations) (crossing_rule 0 d.variables)) k
 
--- ---- what a refusal says
-pub rule_fault : (text : List ℕ) (f : ModelFault) → IsRule f → Gives text (Err f) → HasFault text f
-rule_fault text (Lex f) h g = absurd h
-rule_fault text (Syntax p) h g = absurd h
-rule_fault text (Undeclared p) h g = g
-rule_fault text (Twice p) h g = g
-rule_fault text (Discrete p) h g = g
-rule_fault text (Attribute p) h g = g
-rule_fault text (Function p) h g = g
-rule_fault text (TooLarge p) h g = inr g
-rule_fault text (Undefined e n) h g = g
-rule_fault text (BoundsCross v n) h g = g
-rule_fault text NoMemory h g = absurd h
+module _ (kind : Kind) where
+  -- ---- what a refusal says
+  pub rule_fault : (text : List ℕ) (f : ModelFault) → IsRule f → GivesOf kind text (Err f) → HasFaultOf kind text f
+  rule_fault text (Lex f) h g = absurd h
+  rule_fault text (Syntax p) h g = absurd h
+  rule_fault text (Undeclared p) h g = g
+  rule_fault text (Twice p) h g = g
+  rule_fault text (Discrete p) h g = g
+  rule_fault text (Attribute p) h g = g
+  rule_fault text (Function p) h g = g
+  rule_fault text (TooLarge p) h g = inr g
+  rule_fault text (Undefined e n) h g = g
+  rule_fault text (BoundsCross v n) h g = g
+  rule_fault text NoMemory h g = absurd h
 
-rule_refused : (text : List ℕ) (f : ModelFault) → IsRule f → Gives text (Err f) → RefusesModel text f
-rule_refused text f h g = inr (rule_fault text f h g)
+  rule_refused : (text : List ℕ) (f : ModelFault) → IsRule f → GivesOf kind text (Err f) → RefusesModelOf kind text f
+  rule_refused text f h g = inr (rule_fault text f h g)
 
-no_memory : (text : List ℕ) (f : ModelFault) → f ≡ NoMemory → RefusesModel text f
-no_memory text f e = inl e
+  no_memory : (text : List ℕ) (f : ModelFault) → f ≡ NoMemory → RefusesModelOf kind text f
+  no_memory text f e = inl e
 
--- a text whose lexemes are nowhere too deep and stand for the statements of the items
-pub record HasItems (text : List ℕ) (items : List Item) : Type 0 where
-  pub lexemes : List Lexeme
-  pub has : HasLexemes text lexemes
-  pub level : too_deep lexemes ≡ None
-  pub are : AreItems lexemes items
+  -- a text whose lexemes are nowhere too deep and stand for the statements of the items
+  pub record HasItems (text : List ℕ) (items : List Item) : Type 0 where
+    pub lexemes : List Lexeme
+    pub has : HasLexemes text lexemes
+    pub level : too_deep lexemes ≡ None
+    pub are : AreItems kind lexemes items
 
-pub has_items : (text : List ℕ) (ts cut : List Token) (ls nested parsed : List Lexeme) (items given : List Item) → IsTokenList text ts → cut ≡ ts → AreLexemes text cut ls → nested ≡ ls → None ≡ too_deep nested → parsed ≡ ls → AreItems parsed items → given ≡ items → HasItems text given
-has_items text ts cut ls nested parsed items given t p a q d r i g = record {
-  lexemes = ls;
-  has = record { tokens = ts; cut = t; are = subst (λ x. AreLexemes text x ls) p a };
-  level = ap too_deep (sym q) ∙ sym d;
-  are = subst (AreItems ls) (sym g) (subst (λ x. AreItems x items) r i);
-}
+  pub has_items : (text : List ℕ) (ts cut : List Token) (ls nested parsed : List Lexeme) (items given : List Item) → IsTokenList text ts → cut ≡ ts → AreLexemes text cut ls → nested ≡ ls → None ≡ too_deep nested → parsed ≡ ls → AreItems kind parsed items → given ≡ items → HasItems text given
+  has_items text ts cut ls nested parsed items given t p a q d r i g = record {
+    lexemes = ls;
+    has = record { tokens = ts; cut = t; are = subst (λ x. AreLexemes text x ls) p a };
+    level = ap too_deep (sym q) ∙ sym d;
+    are = subst (AreItems kind ls) (sym g) (subst (λ x. AreItems kind x items) r i);
+  }
 
-gives : (text : List ℕ) (items : List Item) (r : Result WholeModel ModelFault) → (h : HasItems text items) → whole_meaning text h.are.statements ≡ r → Gives text r
-gives text items r h e = record { statements = h.are.statements; has = record { lexemes = h.lexemes; has = h.has; level = h.level; file = h.are.file }; is = e }
+  gives : (text : List ℕ) (items : List Item) (r : Result WholeModel ModelFault) → (h : HasItems text items) → whole_meaning text h.are.statements ≡ r → GivesOf kind text r
+  gives text items r h e = record { statements = h.are.statements; has = record { lexemes = h.lexemes; has = h.has; level = h.level; file = h.are.file }; is = e }
 
-pub perform_refused : (text : List ℕ) (items : List Item) (f : ModelFault) → HasItems text items → DraftsAll text items (Err f) → RefusesModel text f
-perform_refused text items f h (inl e) = no_memory text f e
-perform_refused text items f h (inr d) =
-    let q = d h.lexemes h.are.statements h.are.file h.are.are in
-    rule_refused text f (step_fault _ f (after_all_rule text nothing_yet h.are.statements) q) (gives text items (Err f) h (ap whole_meaning_by q))
+  pub perform_refused : (text : List ℕ) (items : List Item) (f : ModelFault) → HasItems text items → DraftsAll kind text items (Err f) → RefusesModelOf kind text f
+  perform_refused text items f h (inl e) = no_memory text f e
+  perform_refused text items f h (inr d) =
+      let q = d h.lexemes h.are.statements h.are.file h.are.are in
+      rule_refused text f (step_fault _ f (after_all_rule text nothing_yet h.are.statements) q) (gives text items (Err f) h (ap whole_meaning_by q))
 
-pub finish_gives : (text : List ℕ) (items : List Item) (d : Draft) (r : Result WholeModel ModelFault) → HasItems text items → DraftsAll text items (Ok d) → FinishesAs (finish d) r → MatchResult r (IsModelText text) (RefusesModel text)
-finish_gives text items d (Ok m) h a e = gives text items (Ok m) h (ap whole_meaning_by (a h.lexemes h.are.statements h.are.file h.are.are) ∙ e)
-finish_gives text items d (Err f) h a (inl e) = no_memory text f e
-finish_gives text items d (Err f) h a (inr e) =
-    rule_refused text f (finish_rule _ d f (either _ _ (undefined_rule 0 d.equations) (crossing_rule 0 d.variables)) e) (gives text items (Err f) h (ap whole_meaning_by (a h.lexemes h.are.statements h.are.file h.are.are) ∙ e))
+  pub has_draft : (text : List ℕ) (items given : List Item) (d : Draft) → HasItems text given → DraftsAll kind text given (Ok d) → given ≡ items → HasDraft kind text items d
+  has_draft text items given d h a g = record {
+    statements = h.are.statements;
+    has = record { lexemes = h.lexemes; has = h.has; level = h.level; file = h.are.file };
+    are = sym g ∙ h.are.are;
+    drafted = a h.lexemes h.are.statements h.are.file h.are.are;
+  }
+
+  pub finish_gives : (text : List ℕ) (items : List Item) (d : Draft) (r : Result WholeModel ModelFault) → HasDraft kind text items d → FinishesAs (finish d) r → MatchResult r (λ m. GivesOf kind text (Ok m)) (RefusesModelOf kind text)
+  finish_gives text items d (Ok m) h e = record { statements = h.statements; has = h.has; is = ap whole_meaning_by h.drafted ∙ e }
+  finish_gives text items d (Err f) h (inl e) = no_memory text f e
+  finish_gives text items d (Err f) h (inr e) =
+      rule_refused text f (finish_rule _ d f (either _ _ (undefined_rule 0 d.equations) (crossing_rule 0 d.variables)) e) (record { statements = h.statements; has = h.has; is = ap whole_meaning_by h.drafted ∙ e })

@@ -6,14 +6,14 @@ use Rattle.emp_ast.specs.declared.model.Relation.{Relation}
 use Rattle.emp_ast.specs.declared.model.Relation.TheVariants.{Nothing}
 use Rattle.gms_grammar.specs.declared.lexeme.Lexeme.{Lexeme}
 use Rattle.gms_grammar.specs.declared.item.Item.{Item}
-use Rattle.gms_grammar.specs.declared.item.Item.TheVariants.{Begins, Variable, Equation, Defines, Relates, Ends, Number, Name, Enters, Lists, Applies, Groups, Raises, Signs, Joins, Sets, Model, Solves, Aims}
+use Rattle.gms_grammar.specs.declared.item.Item.TheVariants.{Begins, Variable, Equation, Defines, Relates, Ends, Number, Name, Enters, Lists, Applies, Groups, Raises, Signs, Joins, Sets, Model, Match, Solves, Aims}
 use Rattle.gms_read.specs.declared.draft.Draft.{Draft}
 use Rattle.gms_grammar.specs.declared.fault.ModelFault.{ModelFault}
 use Rattle.gms_grammar.specs.declared.fault.ModelFault.TheVariants.{Undeclared, NoMemory}
 use Rattle.gms_read.specs.declared.progress.Second.TheVariants.{Awaited}
 use Rattle.gms_read.specs.declared.progress.Side.{Side}
 use Rattle.gms_read.specs.declared.progress.Progress.{Progress}
-use Rattle.gms_read.specs.Rules.{Step, equation_of, variable_of, with_sides, or_zero, exponent, definition_fault, discrete_fault, declare_variable, declare_equation, declare_model, set_by, declared_as, is_model, with_goal, aim_at}
+use Rattle.gms_read.specs.Rules.{Step, equation_of, variable_of, with_sides, or_zero, exponent, definition_fault, discrete_fault, declare_variable, declare_equation, declare_model, match_fault, set_by, declared_as, is_model, with_goal, aim_at}
 use Rattle.gms_read.specs.Sides.{no_side, with_second, number_by, name_by, exponent_of, raised_to, raise_by, signed_by, joined_by, entered}
 
 -- a call that changes `new` did what the step gives, or its memory was wanting
@@ -90,6 +90,7 @@ item_step text p (Signs s t) rest = Ok (with_side p (signed_by p.side t.place s)
 item_step text p (Joins op t) rest = Ok (with_side p (joined_by p.side t.place op))
 item_step text p (Sets t a limit) rest = on_draft p (set_by p.draft t a limit (declared_as text p.draft t))
 item_step text p (Model t) rest = on_draft p (declare_model text p.draft t)
+item_step text p (Match e v) rest = begun_variables p (match_fault text p.draft (e, v))
 item_step text p (Solves t) rest = on_draft p (solved text p.draft t)
 item_step text p (Aims s t) rest = on_draft p (aim_at p.draft s t (variable_of text p.draft t))
 

@@ -32,7 +32,7 @@ use Rattle.gms_read.specs.declared.table.Named.TheVariants.{Variable as Variable
 use Rattle.gms_grammar.specs.declared.fault.ModelFault.{ModelFault}
 use Rattle.gms_grammar.specs.declared.fault.ModelFault.TheVariants.{Undeclared, Twice, Discrete, Attribute, TooLarge, Undefined, BoundsCross}
 use Rattle.gms_grammar.specs.Lexemes.{spelling}
-use Rattle.gms_grammar.specs.Grammar.{Written, Statement, empty, variables, equations, definition, setting, model, solve}
+use Rattle.gms_grammar.specs.Grammar.{Written, Statement, empty, variables, equations, definition, setting, model, matched, solve}
 pub use Rattle.gms_read.specs.Expressions.{or_else, fault_where, entry_of, declared_as, variable_in, equation_in, variable_of, equation_of, is_model_entry, is_model, is_none, small_whole, exponent, is_exponent, is_one_argument, is_power_of, is_power, is_function, expression_fault, or_zero, second_exponent, meaning, places}
 use Rattle.gms_read.specs.Placed.{placed}
 
@@ -148,6 +148,15 @@ discrete_fault DiscreteWord t = Some (Discrete t.place)
 abbrev pub declare_model : List ℕ → Draft → Lexeme → Step
 declare_model text d t = cond (is_none d.model && is_none (declared_as text d t)) (Ok (add_model text d t)) (Err (Twice t.place))
 
+-- ---- matches
+-- the equation and the variable are declared before
+abbrev pub match_fault : List ℕ → Draft → Lexeme × Lexeme → Option ModelFault
+match_fault text d q = or_else (fault_where (is_none (equation_of text d q.0)) (Undeclared q.0.place)) (fault_where (is_none (variable_of text d q.1)) (Undeclared q.1.place))
+
+abbrev pub matches_fault : List ℕ → Draft → List (Lexeme × Lexeme) → Option ModelFault
+matches_fault text d [] = None
+matches_fault text d (q ∷ qs) = or_else (match_fault text d q) (matches_fault text d qs)
+
 -- ---- definitions
 -- an expression with its places
 abbrev pub tree_of : List ℕ → Draft → Written → Tree
@@ -237,6 +246,7 @@ after text d (equations names) = declare_all (declare_equation text) d names
 after text d (definition t left r right) = define text d t left r right
 after text d (setting t a limit) = set_by d t a limit (declared_as text d t)
 after text d (model t) = declare_model text d t
+after text d (matched t qs) = and_then (declare_model text d t) (λ e. unless_fault (matches_fault text e qs) (Ok e))
 after text d (solve t goal) = cond (is_model text d t) (aim text d goal) (Err (Undeclared t.place))
 
 abbrev pub after_all : List ℕ → Draft → List Statement → Step

@@ -1,5 +1,6 @@
 //! From items to a draft, rule by rule.
 ghost use Rattle.std.specs.Prelude.{◌≡◌, Ok};
+ghost use Rattle.gms_grammar.specs.declared.kind.Kind.{Kind};
 ghost use Rattle.gms_read.specs.Steps.{DraftsAll};
 ghost use Rattle.gms_read.specs.Rules.{nothing_yet};
 ghost use Rattle.gms_read.specs.Performing.{Does, idle, item_step, begun, begun_variables, related, ended};
@@ -14,7 +15,7 @@ use gms_grammar::lexeme::{Domain, Lexeme};
 use std::alloc::Global;
 
 impl Progress {
-    ghost use Rattle.gms_read.specs.Rules.{discrete_fault};
+    ghost use Rattle.gms_read.specs.Rules.{discrete_fault, match_fault};
 
     fn new(alloc: Global) -> Progress
         ensures { result ≡ idle nothing_yet }
@@ -37,6 +38,25 @@ impl Progress {
             Domain::Free => Ok(()),
             Domain::Positive => Ok(()),
             Domain::Negative => Ok(()),
+        }
+    }
+
+    /// A match, whose equation and variable are declared before.
+    fn pair(
+        &mut self,
+        alloc: Global,
+        text: &[u8],
+        equation: Lexeme,
+        variable: Lexeme,
+    ) -> Result<(), ModelFault>
+        ensures { Does result self.new (begun_variables self.old (match_fault text.now self.old.draft (equation, variable))) }
+    {
+        match equation_in(self.draft.declared_as(alloc, text, equation)?) {
+            Some(_) => match variable_in(self.draft.declared_as(alloc, text, variable)?) {
+                Some(_) => Ok(()),
+                None => Err(ModelFault::Undeclared(variable.place)),
+            },
+            None => Err(ModelFault::Undeclared(equation.place)),
         }
     }
 
@@ -119,6 +139,7 @@ impl Progress {
                 self.draft.set(lexeme, attribute, limit, found)
             }
             Item::Model(lexeme) => self.draft.declare_model(alloc, text, lexeme),
+            Item::Match(equation, variable) => { self.pair(alloc, text, equation, variable) }
             Item::Solves(lexeme) => self.draft.solve(alloc, text, lexeme),
             Item::Aims(sense, lexeme) => self.draft.aim(alloc, text, sense, lexeme),
         }
@@ -128,7 +149,7 @@ impl Progress {
 /// What the statements of the items declare, define and set, or the first rule that they break.
 #[tactic(auto, using(crate::proofs::Performed::performing))]
 pub fn perform(alloc: Global, text: &[u8], items: &[Item]) -> Result<Draft, ModelFault>
-    ensures { DraftsAll text.now items.now result }
+    ensures { (k : Kind) → DraftsAll k text.now items.now result }
 {
     let mut progress = Progress::new(alloc);
     for i in 0..items.len() {

@@ -3,4 +3,4 @@ use Rattle.gms_grammar.proofs.Places.{Reached}
 use Rattle.gms_grammar.proofs.parse.parse.Given as goal
 
 abbrev pub invariant-loop-t : goal.invariant-loop-t
-invariant-loop-t l = Reached (take l.t-index l.lexemes) (reverse l.stack.items) l.out.items
+invariant-loop-t l = Reached l.fn.kind (take l.t-index l.lexemes) (reverse l.stack.items) l.out.items
