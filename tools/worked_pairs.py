@@ -1,10 +1,10 @@
 """Pairs of a model text and an annotation text that both tools run the program on, and certificates in version 1.
 
-Each pair has the status with which `emp solve` ends. The pairs of `examples/` stand beside those that are written here.
+Each pair has the status with which `emp solve` ends. The pairs of `examples/README.md` stand beside those that are written here.
 """
 import os
 
-EXAMPLES = os.path.join(os.path.dirname(os.path.abspath(__file__)), "..", "examples")
+EXAMPLES = os.path.join(os.path.dirname(os.path.abspath(__file__)), "..", "crates", "emp_cases", "data")
 
 
 def model(declared, defined, solve="Solve m using EMP;"):
@@ -40,13 +40,13 @@ SMALL = {
 
 
 def examples():
-    """The pairs of the folder `examples/`, by their names."""
+    """The examples, by their names: the pairs that have a report beside them."""
     pairs = {}
     for name in sorted(os.listdir(EXAMPLES)):
         stem, end = os.path.splitext(name)
-        if end == ".gms":
+        if end == ".report":
             texts = []
-            for file in (name, stem + ".info"):
+            for file in (stem + ".gms", stem + ".info"):
                 with open(os.path.join(EXAMPLES, file), encoding="utf-8") as it:
                     texts.append(it.read())
             pairs[stem] = (*texts, {"clash": 1, "grant": 2}.get(stem, 0))

@@ -1,17 +1,13 @@
-//! Tables of tests of numbers, words, desks and model texts, one module a layer. They call public functions alone.
+//! Tests of what no call shows, one module a layer: numbers, squares, and searches over row systems. They call public functions alone.
 #![tactic(auto)]
 
 #[cfg(test)]
 mod convexity;
 #[cfg(test)]
-mod desks;
-#[cfg(test)]
-mod model_texts;
-#[cfg(test)]
 mod numbers;
 #[cfg(test)]
-mod printed_texts;
+mod pivots;
 #[cfg(test)]
-mod tokens;
+mod points;
 #[cfg(test)]
-mod words;
+mod systems;

@@ -185,69 +185,16 @@ mod print {
 
 mod numeral {
     use emp_numeral::numeral::{NumeralFault, read_numeral};
-    use std::test::Fail;
-
-    const MOST: i128 = 85070591730234615865843651857942052863;
-
-    const LARGE: i128 = 10000000000000000000000000000000000000;
 
     #[test]
-    fn numerals(rt: HostRuntime) -> Result<(), Fail> {
-        for (text, num, den) in [
-            ("0", 0, 1),
-            ("007", 7, 1),
-            ("5.", 5, 1),
-            (".5", 1, 2),
-            ("0.10", 1, 10),
-            ("0.000", 0, 1),
-            ("12.50e-1", 5, 4),
-            ("0.5E+1", 5, 1),
-            ("1e-3", 1, 1000),
-            ("1e37", LARGE, 1),
-            ("1e-37", 1, LARGE),
-            ("0e999", 0, 1),
-            (".0e-99999999999999999999999999999999999999999999", 0, 1),
-            ("00000000000000000000000000000000000000000000000001", 1, 1),
-            ("1.00000000000000000000000000000000000000000000", 1, 1),
-            ("85070591730234615865843651857942052863", MOST, 1),
+    fn texts_that_are_none(rt: HostRuntime) {
+        for text in [
+            "", ".", "e5", ".e5", "1e", "1e+", "1e+-2", "1e2.", "..5", "5..", "-1", " 1", "1 ",
         ] {
-            let found = read_numeral(text.as_bytes()).map(|f| (f.num, f.den));
-            assert!(rt; found == Ok((num, den)), "{text}");
-        }
-        Ok(())
-    }
-
-    #[test]
-    fn faults(rt: HostRuntime) {
-        for (text, fault) in [
-            ("", NumeralFault::Form),
-            (".", NumeralFault::Form),
-            ("e5", NumeralFault::Form),
-            (".e5", NumeralFault::Form),
-            ("1e", NumeralFault::Form),
-            ("1e+", NumeralFault::Form),
-            ("1e+-2", NumeralFault::Form),
-            ("1e2.", NumeralFault::Form),
-            ("..5", NumeralFault::Form),
-            ("5..", NumeralFault::Form),
-            ("-1", NumeralFault::Form),
-            (" 1", NumeralFault::Form),
-            ("1 ", NumeralFault::Form),
-            ("1e38", NumeralFault::Wide),
-            ("1e-38", NumeralFault::Wide),
-            ("100e-38", NumeralFault::Wide),
-            ("1e400", NumeralFault::Wide),
-            (
-                "1e-99999999999999999999999999999999999999999999",
-                NumeralFault::Wide,
-            ),
-            (
-                "1e99999999999999999999999999999999999999999999",
-                NumeralFault::Wide,
-            ),
-            ("85070591730234615865843651857942052864", NumeralFault::Wide),
-        ] {
-            assert!(rt; read_numeral(text.as_bytes()) == Err(fault), "{text}");
+            assert!(rt;
+                read_numeral(text.as_bytes()) == Err(NumeralFault::Form),
+                "{text}"
+            );
         }
     }
 }

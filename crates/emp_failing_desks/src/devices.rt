@@ -1,6 +1,5 @@
 //! Calls to the desk that fail, each in turn, and texts that are cut, each at every place.
-use crate::certificates::{APART, FIRMS, KINK, NONE, RAY, REPORT, SPLIT, TWO, desk_with};
-use crate::words::words_of;
+use crate::texts::{APART, FIRMS, KINK, NONE, RAY, REPORT, SPLIT, TWO, desk_with, words_of};
 use emp_desk::memory_desk::MemoryDesk;
 use emp_engine::run::run;
 use std::alloc::Global;
