@@ -1,4 +1,4 @@
 -- What is answered
 pub mod Answers
 -- What only helps proofs
-pub mod Outcomes
+pub mod Steps

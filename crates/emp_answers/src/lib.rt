@@ -4,8 +4,3 @@
 #![tactic(auto)]
 
 pub mod answer;
-pub mod certificates;
-pub mod reports;
-pub mod said;
-pub mod solve;
-pub mod stated;
