@@ -11,8 +11,8 @@ use Rattle.gms_print.proofs.Soundness.{sound_model}
 use Rattle.info_read.specs.Texts.{IsInfoText, RefusesInfo}
 use Rattle.info_read.specs.declared.fault.InfoFault.{InfoFault}
 use Rattle.info_read.specs.declared.fault.InfoFault.TheVariants as InfoWords
-use Rattle.emp_fits.proofs.Fitting.{annotations_fit, goals_fit}
-use Rattle.emp_fits.proofs.Blocks.{blocks_fit}
+use Rattle.emp_answers.proofs.Fitting.{annotations_fit, goals_fit}
+use Rattle.emp_answers.proofs.Blocks.{blocks_fit}
 use Rattle.emp_problem.specs.Class.{AnnotFits, GoalFits}
 use Rattle.emp_command.specs.declared.words.Verb.TheVariants.{Solve, Check, Print, Migrate}
 use Rattle.emp_command.specs.Words.{Asked}

@@ -1,5 +1,5 @@
 //! The laws of the numbers that texts name, stated for the layers above.
-ghost use Rattle.emp_fits.specs.Laws.{AnnotationsFit, GoalsFit};
+ghost use Rattle.emp_answers.specs.Laws.{AnnotationsFit, GoalsFit};
 
 /// An annotation names variables and equations of its model.
 pub fn annotations_fit()
