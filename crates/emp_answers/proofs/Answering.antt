@@ -11,17 +11,19 @@ use Rattle.gms_print.proofs.Soundness.{sound_model}
 use Rattle.info_read.specs.Texts.{IsInfoText, RefusesInfo}
 use Rattle.info_read.specs.declared.fault.InfoFault.{InfoFault}
 use Rattle.info_read.specs.declared.fault.InfoFault.TheVariants as InfoWords
-use Rattle.emp_fits.proofs.Fitting.{annotations_fit, goals_fit}
-use Rattle.emp_fits.proofs.Blocks.{blocks_fit}
+use Rattle.emp_answers.proofs.Fitting.{annotations_fit, goals_fit}
+use Rattle.emp_answers.proofs.Blocks.{blocks_fit}
 use Rattle.emp_problem.specs.Class.{AnnotFits, GoalFits}
 use Rattle.emp_command.specs.declared.words.Verb.TheVariants.{Solve, Check, Print, Migrate}
 use Rattle.emp_command.specs.Words.{Asked}
 use Rattle.emp_command.specs.Course.{Outcome, refusal}
 use Rattle.emp_report.specs.TextLines.{not_yet_line, model_line, info_line}
-use Rattle.emp_answers.specs.declared.said.Answer.{Answer}
-use Rattle.emp_answers.specs.Answers.{is_built, Solves, Checks, Migrates, Does, prints, solves, checks, migrates, Answers, unbuilt, bad_model, bad_info, done}
-use Rattle.emp_answers.specs.Outcomes.{outcome_of, Prints, OverInfo, refuses, reads}
-use Rattle.emp_answers.proofs.Oks.{ok_map}
+use Rattle.emp_outcomes.specs.declared.said.Answer.{Answer}
+use Rattle.emp_outcomes.specs.Outcomes.{Solves, Checks, Migrates}
+use Rattle.emp_answers.specs.Answers.{is_built, Does, prints, solves, checks, migrates, Answers, unbuilt, bad_model, bad_info, done}
+use Rattle.emp_outcomes.specs.Steps.{outcome_of}
+use Rattle.emp_answers.specs.Steps.{Prints, OverInfo, refuses, reads}
+use Rattle.emp_outcomes.proofs.Oks.{ok_map}
 
 -- ---- what texts keep
 pub has_text : (text : List ℕ) (m : Model) → IsModelText text m → HasText m

@@ -1,6 +1,3 @@
-pub mod Oks
-pub mod Refusing
+pub mod Blocks
+pub mod Fitting
 pub mod Answering
-pub mod Reporting
-pub mod Solving
-pub mod Certifying

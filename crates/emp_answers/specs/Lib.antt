@@ -1,4 +1,6 @@
 -- What is answered
 pub mod Answers
+-- The numbers that texts name
+pub mod Laws
 -- What only helps proofs
-pub mod Outcomes
+pub mod Steps

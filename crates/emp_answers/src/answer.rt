@@ -8,16 +8,17 @@ ghost use Rattle.info_read.specs.declared.fault.InfoFault.TheVariants as info_wo
 ghost use Rattle.emp_problem.specs.Class.{AnnotFits, GoalFits};
 ghost use Rattle.emp_report.specs.TextLines.{not_yet_line, model_line, info_line};
 ghost use Rattle.emp_answers.specs.Answers.{Answers, Does, is_built};
-ghost use Rattle.emp_answers.specs.Outcomes.{outcome_of, Prints, OverInfo, AreTexts, RestFits, OutputFits};
+ghost use Rattle.emp_outcomes.specs.Steps.{outcome_of};
+ghost use Rattle.emp_answers.specs.Steps.{Prints, OverInfo, AreTexts, RestFits, OutputFits};
 
-use crate::certificates::{check, migrate};
-use crate::said::{Answer, refused};
-use crate::solve::solve;
 use emp_ast::annot::Annot;
 use emp_ast::model::Model;
 use emp_command::words::{Request, Verb};
 use emp_list::memory::NoMemory;
 use emp_list::seq::Seq;
+use emp_outcomes::certificates::{check, migrate};
+use emp_outcomes::said::{Answer, refused};
+use emp_outcomes::solve::solve;
 use emp_report::texts;
 use gms_grammar::fault::ModelFault;
 use gms_print::print::print_model;

@@ -43,7 +43,8 @@ use Rattle.emp_solution.specs.declared.state.StateFault.{StateFault}
 use Rattle.emp_solution.specs.declared.state.StateFault.TheVariants as StateWords
 use Rattle.emp_solution.specs.Stated.{StateGives}
 use Rattle.emp_solution.proofs.Tells.{stated_tells}
-use Rattle.emp_answers.specs.Answers.{state_status, state_line, Refuses, bad_owner, unstated, ReportOf, Solves, refused, unfinished, unfilled, too_long, answered, Unaccepted, no_rows, bad_text, rejected, wide_sum, IsAccepted, Checks, unaccepted, accepted, Migrates, unmigrated, migrated_long, migrated, Does, prints, solves, checks, migrates, Answers, unbuilt, bad_model, bad_info, done}
+use Rattle.emp_outcomes.specs.Outcomes.{state_status, state_line, Refuses, bad_owner, unstated, ReportOf, Solves, refused, unfinished, unfilled, too_long, answered, Unaccepted, no_rows, bad_text, rejected, wide_sum, IsAccepted, Checks, unaccepted, accepted, Migrates, unmigrated, migrated_long, migrated}
+use Rattle.emp_answers.specs.Answers.{Does, prints, solves, checks, migrates, Answers, unbuilt, bad_model, bad_info, done}
 use Rattle.emp_engine.specs.Run.{IsAnswer, over_texts, market, HasAccepted, ShowsAccepted, ShowsMigrated, SaysCanonical, ShowsModelFault, ShowsInfoFault, ShowsOwnFault, ShowsNotConvex, IsAnswered}
 use Rattle.emp_engine.proofs.Verbs.{print_not_make, check_not_make, migrate_not_make}
 use Rattle.emp_engine.proofs.Headline.{first_two, NotMade, not_by_status, not_by_verb, DoneAt, done_now, grows, one_stored, said_alone, refuses_high, unaccepted_high, state_high, walk_high, not_verbs}

@@ -18,8 +18,9 @@ use Rattle.emp_solution.specs.declared.state.StateFault.TheVariants as StateWord
 use Rattle.emp_accepted.specs.Accepted.{IsAcceptedPair}
 use Rattle.emp_accepted.specs.Laws.{IsWideFault}
 use Rattle.emp_accepted.proofs.Faults.{accepted_are_stated, accepted_break_none}
-use Rattle.emp_exact.proofs.Answering.{one_answer}
-use Rattle.emp_answers.specs.Answers.{state_status, IsNamedFault, Refuses, bad_owner, unstated, walk_status, ReportOf, Solves, refused, unfinished, unfilled, too_long, answered, Does, prints, solves, checks, migrates}
+use Rattle.emp_outcome_laws.proofs.Answering.{one_answer}
+use Rattle.emp_outcomes.specs.Outcomes.{state_status, IsNamedFault, Refuses, bad_owner, unstated, walk_status, ReportOf, Solves, refused, unfinished, unfilled, too_long, answered}
+use Rattle.emp_answers.specs.Answers.{Does, prints, solves, checks, migrates}
 use Rattle.emp_engine.specs.Run.{IsSolve, IsDone, is_decision, IsDecided}
 use Rattle.emp_engine.proofs.Verbs.{solve_verb}
 use Rattle.emp_engine.proofs.Headline.{not_verbs, print_not, check_not, migrate_not}

@@ -11,7 +11,7 @@ use Rattle.emp_command.specs.Deliveries.{SomeStoreRose}
 use Rattle.emp_command.proofs.Telling.{told_join, told_both, told_map, rose_first, rose_second}
 use Rattle.std.proofs.lemmas.Bool.{false≢true}
 use Rattle.emp_command.specs.declared.words.Verb.TheVariants.{Solve, Check, Print, Make, Migrate}
-use Rattle.emp_answers.specs.Outcomes.{AreTexts, OutputFits}
+use Rattle.emp_answers.specs.Steps.{AreTexts, OutputFits}
 use Rattle.emp_answers.specs.Answers.{is_built}
 use Rattle.emp_engine.specs.Run.{IsMake, is_market_status, IsAnswer, SomeLoadRose, SomeWriteRose, IsStatus}
 use Rattle.emp_engine.proofs.Verbs.{make_verb}

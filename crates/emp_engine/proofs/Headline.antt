@@ -35,7 +35,8 @@ use Rattle.emp_solution.proofs.Tells.{stated_tells, is_equilibrium, is_bilevel}
 use Rattle.emp_solution.proofs.Back.{filled_is_file, spread_is_step}
 use Rattle.emp_subst.specs.Fill.{spread}
 use Rattle.emp_report.specs.Report.{unbounded_report}
-use Rattle.emp_answers.specs.Answers.{state_status, Refuses, bad_owner, unstated, walk_status, ReportOf, Solves, refused, unfinished, unfilled, too_long, answered, Unaccepted, no_rows, bad_text, rejected, wide_sum, Checks, unaccepted, accepted, Migrates, unmigrated, migrated_long, migrated, Does, prints, solves, checks, migrates, Answers, unbuilt, bad_model, bad_info, done}
+use Rattle.emp_outcomes.specs.Outcomes.{state_status, Refuses, bad_owner, unstated, walk_status, ReportOf, Solves, refused, unfinished, unfilled, too_long, answered, Unaccepted, no_rows, bad_text, rejected, wide_sum, Checks, unaccepted, accepted, Migrates, unmigrated, migrated_long, migrated}
+use Rattle.emp_answers.specs.Answers.{Does, prints, solves, checks, migrates, Answers, unbuilt, bad_model, bad_info, done}
 use Rattle.emp_engine.specs.Run.{TextsSay, Grows, IsSolution, point_report, SaysPoint, ShowsNone, SaysRay, IsAnswer, over_texts, market, IsAnswered}
 use Rattle.emp_engine.proofs.Verbs.{solve_not_make}
 use Rattle.emp_makes.specs.Makes.{Makes}

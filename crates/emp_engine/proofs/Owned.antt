@@ -6,8 +6,9 @@ use Rattle.emp_command.specs.Words.{Asked, Asks, solve, check, print, make, migr
 use Rattle.emp_command.specs.Course.{Outcome, refusal}
 use Rattle.emp_cert_text.specs.Text.{cert_text}
 use Rattle.emp_report.specs.CertLines.{accepted_line, sum_line}
-use Rattle.emp_answers.specs.Answers.{saying, Checks, Does, prints, solves, checks, migrates, is_built_for, is_built}
-use Rattle.emp_due.proofs.Owning.{own_passes}
+use Rattle.emp_outcomes.specs.Outcomes.{saying, Checks}
+use Rattle.emp_answers.specs.Answers.{Does, prints, solves, checks, migrates, is_built_for, is_built}
+use Rattle.emp_outcome_laws.proofs.Owning.{own_passes}
 use Rattle.emp_engine.specs.Run.{IsCheck, HoldsOwn, Passes, NamesTexts, IsAnswered}
 use Rattle.emp_engine.proofs.Headline.{not_verbs, said_alone}
 use Rattle.emp_engine.proofs.Verbs.{check_verb, other_words}

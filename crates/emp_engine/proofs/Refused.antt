@@ -35,7 +35,8 @@ use Rattle.gms_read.specs.Texts.{RefusesModel}
 use Rattle.info_read.specs.Texts.{RefusesInfo}
 use Rattle.emp_report.specs.TextLines.{model_line, info_line, own_line}
 use Rattle.emp_report.specs.CertLines.{cert_line}
-use Rattle.emp_answers.specs.Answers.{state_status, state_line, IsNamedFault, Refuses, bad_owner, unstated, walk_status, walk_line, ReportOf, Solves, refused, unfinished, unfilled, too_long, answered, Unaccepted, no_rows, bad_text, rejected, wide_sum, Checks, unaccepted, accepted, Migrates, unmigrated, migrated_long, migrated, Does, prints, solves, checks, migrates, Answers, unbuilt, bad_model, bad_info, done}
+use Rattle.emp_outcomes.specs.Outcomes.{state_status, state_line, IsNamedFault, Refuses, bad_owner, unstated, walk_status, walk_line, ReportOf, Solves, refused, unfinished, unfilled, too_long, answered, Unaccepted, no_rows, bad_text, rejected, wide_sum, Checks, unaccepted, accepted, Migrates, unmigrated, migrated_long, migrated}
+use Rattle.emp_answers.specs.Answers.{Does, prints, solves, checks, migrates, Answers, unbuilt, bad_model, bad_info, done}
 use Rattle.emp_makes.specs.Makes.{SumsUp}
 use Rattle.emp_makes.specs.Makes as Made
 use Rattle.emp_engine.specs.Run.{IsAnswer, over_texts, market, is_refusal, IsFaultLine, SaysRefusal}

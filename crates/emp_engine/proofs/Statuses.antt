@@ -22,7 +22,8 @@ use Rattle.emp_walk.specs.declared.fault.WalkFault.TheVariants as WalkWords
 use Rattle.emp_solution.specs.declared.state.Stated.{Stated}
 use Rattle.emp_solution.specs.declared.state.StateFault.{StateFault}
 use Rattle.emp_solution.specs.declared.state.StateFault.TheVariants as StateWords
-use Rattle.emp_answers.specs.Answers.{state_status, IsNamedFault, Refuses, bad_owner, unstated, walk_status, ReportOf, cert_stores, Solves, refused, unfinished, unfilled, too_long, answered, Unaccepted, no_rows, bad_text, rejected, wide_sum, Checks, unaccepted, accepted, Migrates, unmigrated, migrated_long, migrated, Does, prints, solves, checks, migrates, Answers, unbuilt, bad_model, bad_info, done}
+use Rattle.emp_outcomes.specs.Outcomes.{state_status, IsNamedFault, Refuses, bad_owner, unstated, walk_status, ReportOf, cert_stores, Solves, refused, unfinished, unfilled, too_long, answered, Unaccepted, no_rows, bad_text, rejected, wide_sum, Checks, unaccepted, accepted, Migrates, unmigrated, migrated_long, migrated}
+use Rattle.emp_answers.specs.Answers.{Does, prints, solves, checks, migrates, Answers, unbuilt, bad_model, bad_info, done}
 use Rattle.emp_makes.specs.Makes.{Saves, SumsUp}
 use Rattle.emp_makes.specs.Makes as Made
 use Rattle.emp_makes.proofs.Ends.{makes_end}

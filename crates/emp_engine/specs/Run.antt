@@ -44,7 +44,8 @@ use Rattle.emp_make.specs.Markets.{IsMarket}
 use Rattle.emp_makes.specs.Makes.{OutputGives, ProfitGives, summary, Makes}
 use Rattle.emp_report.specs.CertLines.{sum_line, accepted_line, migrated_line}
 use Rattle.emp_report.specs.Report.{equilibrium_report, best_report, unbounded_report}
-use Rattle.emp_answers.specs.Answers.{is_built, Refuses, Solves, Does, Answers}
+use Rattle.emp_outcomes.specs.Outcomes.{Refuses, Solves}
+use Rattle.emp_answers.specs.Answers.{is_built, Does, Answers}
 
 -- ---- words
 -- the first word

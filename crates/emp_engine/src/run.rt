@@ -6,12 +6,11 @@ ghost use Rattle.emp_command.specs.Words.{IsPlain, Asks};
 ghost use Rattle.emp_command.specs.Course.{Runs, Delivers, IsInRange, refusal as refused};
 ghost use Rattle.emp_command.specs.Refusals.{line_of, status_of};
 ghost use Rattle.emp_command.specs.Requests.{asked_of};
-ghost use Rattle.emp_answers.specs.Outcomes.{outcome_of};
+ghost use Rattle.emp_outcomes.specs.Steps.{outcome_of};
 ghost use Rattle.emp_engine.specs.Run.{IsAnswer, IsSolve, IsPrint, IsCheck, IsMigrate, IsMake, SaysPoint, ShowsNone, SaysRay, ShowsAccepted, ShowsMigrated, SaysCanonical, ShowsModelFault, ShowsInfoFault, ShowsOwnFault, ShowsNotConvex, ShowsMarket, is_market_status, ShowsCause, is_caused, IsComplete, MakesWhole, DoesWhole, DecidesWhole, OwnWhole, is_refusal, SaysRefusal, KeepsOthers, SomeLoadRose, SomeWriteRose, NothingRose, IsStatus};
 ghost use Rattle.emp_engine.specs.Ends.{Ends, SayCause, IsOutOfRange, IsRequest};
 
 use emp_answers::answer::answer_texts;
-use emp_answers::said::Answer;
 use emp_command::delivery::{deliver, refuse};
 use emp_command::files::load_all;
 use emp_command::refusal::Refusal;
@@ -19,6 +18,7 @@ use emp_command::words::{Request, Verb, asked};
 use emp_desk::desk::Desk;
 use emp_list::memory::NoMemory;
 use emp_makes::answer::answer_market;
+use emp_outcomes::said::Answer;
 use std::alloc::Global;
 
 /// Why a number of the request is out of its range, where one is.

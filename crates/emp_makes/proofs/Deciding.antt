@@ -20,7 +20,7 @@ use Rattle.emp_solution.specs.Stated.{IsStated}
 use Rattle.emp_solution.proofs.Rows.{stated_has_rows}
 use Rattle.emp_solution.proofs.Tells.{stated_tells, is_bilevel}
 use Rattle.emp_solution.proofs.Back.{filled_is_file}
-use Rattle.emp_answers.specs.Answers.{Fills}
+use Rattle.emp_outcomes.specs.Outcomes.{Fills}
 use Rattle.emp_duopoly.specs.Laws.{MarketsHaveEquilibria}
 use Rattle.emp_make.specs.Markets.{IsMarket}
 

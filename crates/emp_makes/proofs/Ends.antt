@@ -16,7 +16,7 @@ use Rattle.emp_accepted.specs.Accepted.{IsAcceptedPair}
 use Rattle.emp_accepted.specs.Laws.{IsWideFault}
 use Rattle.emp_accepted.proofs.Faults.{accepted_are_stated, accepted_break_none}
 use Rattle.emp_market.proofs.AcceptMarkets.{markets_are_accepted}
-use Rattle.emp_answers.specs.Answers.{state_status, walk_status, IsNamedFault, Refuses, bad_owner, unstated}
+use Rattle.emp_outcomes.specs.Outcomes.{state_status, walk_status, IsNamedFault, Refuses, bad_owner, unstated}
 use Rattle.emp_make.specs.Markets.{IsMarket}
 use Rattle.emp_makes.specs.Makes.{SumsUp, refused, unfinished, unfilled, wide_output, wide_profit, made}
 use Rattle.emp_makes.specs.Laws.{MakesEnd, ShowsSums, MadeShows}

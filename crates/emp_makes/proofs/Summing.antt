@@ -17,10 +17,10 @@ use Rattle.emp_solution.specs.Stated.{IsStated}
 use Rattle.emp_subst.specs.declared.fault.FillFault.{FillFault}
 use Rattle.emp_subst.specs.declared.fault.FillFault.TheVariants as FillWords
 use Rattle.emp_report.specs.ClassLines.{value_line}
-use Rattle.emp_answers.specs.declared.said.Answer.{Answer}
-use Rattle.emp_answers.specs.Answers.{walk_status, walk_line, verdict_point, Fills, Refuses}
-use Rattle.emp_answers.specs.Outcomes.{outcome_of, ValueRefused}
-use Rattle.emp_answers.proofs.Oks.{ok_map}
+use Rattle.emp_outcomes.specs.declared.said.Answer.{Answer}
+use Rattle.emp_outcomes.specs.Outcomes.{walk_status, walk_line, verdict_point, Fills, Refuses}
+use Rattle.emp_outcomes.specs.Steps.{outcome_of, ValueRefused}
+use Rattle.emp_outcomes.proofs.Oks.{ok_map}
 use Rattle.emp_make.specs.Markets.{IsMarket}
 use Rattle.emp_makes.specs.declared.sums.Totals.{Totals}
 use Rattle.emp_makes.specs.Makes.{summary, Saves, HasValues, SumsUp, refused, unfinished, unfilled, wide_output, wide_profit, made, Makes, OutputGives, ProfitGives}

@@ -21,7 +21,7 @@ use Rattle.emp_solution.specs.declared.state.Stated.{Stated}
 use Rattle.emp_solution.specs.Stated.{IsStated}
 use Rattle.emp_make.specs.Markets.{IsMarket}
 use Rattle.emp_report.specs.ClassLines.{value_line}
-use Rattle.emp_answers.specs.Answers.{Refuses, Fills, IsUnfilled, walk_status, walk_line}
+use Rattle.emp_outcomes.specs.Outcomes.{Refuses, Fills, IsUnfilled, walk_status, walk_line}
 
 -- ---- sums
 -- the values of n variables from number `first` on, added in order to 0

@@ -1,6 +1,6 @@
 use Rattle.std.proofs.Common.{subst, ap}
 use Rattle.emp_command.specs.Requests.{asked_of, word_of}
-use Rattle.emp_answers.specs.Outcomes.{RestFits}
+use Rattle.emp_answers.specs.Steps.{RestFits}
 use Rattle.emp_answers.proofs.Answering.{print_does, solve_does, check_does, migrate_does, rest_is}
 use Rattle.emp_answers.proofs.answer.over_model.Goals as goal
 

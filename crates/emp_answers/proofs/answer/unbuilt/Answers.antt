@@ -1,5 +1,5 @@
 use Rattle.emp_command.specs.Requests.{asked_of}
-use Rattle.emp_answers.specs.Outcomes.{outcome_of}
+use Rattle.emp_outcomes.specs.Steps.{outcome_of}
 use Rattle.emp_answers.proofs.Answering.{not_built}
 use Rattle.emp_answers.proofs.answer.unbuilt.Goals as goal
 

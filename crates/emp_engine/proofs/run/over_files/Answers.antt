@@ -1,7 +1,8 @@
 use Rattle.std.proofs.Common.{◌∙◌, sym, subst, string_bytes}
 use Rattle.std.proofs.lemmas.List.{length-map}
 use Rattle.emp_command.specs.Requests.{asked_of}
-use Rattle.emp_answers.specs.Outcomes.{AreTexts, outcome_of}
+use Rattle.emp_outcomes.specs.Steps.{outcome_of}
+use Rattle.emp_answers.specs.Steps.{AreTexts}
 use Rattle.emp_engine.specs.Run.{over_texts}
 use Rattle.emp_engine.proofs.Saying.{said_ends, other_market}
 use Rattle.emp_engine.proofs.Ending.{request_texts, request_output, starved_ends, unloaded_ends}

@@ -1,5 +1,5 @@
 use Rattle.emp_command.specs.Requests.{asked_of}
-use Rattle.emp_answers.specs.Outcomes.{outcome_of}
+use Rattle.emp_outcomes.specs.Steps.{outcome_of}
 use Rattle.emp_engine.proofs.Saying.{over_market_ends, over_market_starves}
 use Rattle.emp_engine.proofs.run.over_market.Goals as goal
 

@@ -1,1 +1,0 @@
--- What a report of a verdict comes to.

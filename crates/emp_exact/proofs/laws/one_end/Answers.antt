@@ -1,5 +1,0 @@
-use Rattle.emp_exact.proofs.Founds as Founds
-use Rattle.emp_exact.proofs.laws.one_end.Goals as goal
-
-pub returns : goal.returns
-returns c = Founds.one_end

@@ -1,5 +1,0 @@
-use Rattle.emp_fits.proofs.Fitting.{annotations_fit}
-use Rattle.emp_fits.proofs.laws.annotations_fit.Goals as goal
-
-pub returns : goal.returns
-returns c = annotations_fit

@@ -1,5 +1,0 @@
-use Rattle.emp_fits.proofs.Fitting.{goals_fit}
-use Rattle.emp_fits.proofs.laws.goals_fit.Goals as goal
-
-pub returns : goal.returns
-returns c = goals_fit

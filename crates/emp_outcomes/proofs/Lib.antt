@@ -1,0 +1,4 @@
+pub mod Oks
+pub mod Refusing
+pub mod Solving
+pub mod Certifying
