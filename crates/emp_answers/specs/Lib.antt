@@ -1,4 +1,4 @@
--- What is answered
+-- What a caller relies on
 pub mod Answers
 -- What only helps proofs
 pub mod Outcomes

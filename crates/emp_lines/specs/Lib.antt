@@ -1,2 +1,3 @@
+-- What a caller relies on
 pub mod TextLines
 pub mod ClassLines
