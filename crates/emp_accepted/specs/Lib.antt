@@ -1,4 +1,4 @@
--- What an accepted pair is
+-- What a caller relies on
 pub mod Accepted
--- What is so of them
+-- Laws
 pub mod Laws

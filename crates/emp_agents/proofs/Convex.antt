@@ -17,7 +17,7 @@ use Rattle.emp_ast.specs.declared.annot.Annot.{Annot}
 use Rattle.emp_ast.specs.Parties.{block, objective, names_variable}
 use Rattle.emp_ast.specs.Rivals.{IsGiven}
 use Rattle.emp_ast.specs.Convex.{IsBetween, Bends, counted, IsConvexIn, IsConvexUpTo, IsConvex}
-use Rattle.emp_ast.proofs.Fractions.{sign_from, sign_to}
+use Rattle.emp_ast.proofs.Fractions.{sign_from, sign_to, at_most_gap, at_most_over}
 use Rattle.emp_form.specs.Form.{Form, quadratic, top_at, form_value}
 use Rattle.emp_form.specs.Partial.{moved}
 use Rattle.emp_ldl.specs.Whole.{IsSemidefinite}
@@ -56,10 +56,13 @@ bends_top d p q r ft fb gt gb ht hb tp tq tr e h i j k =
     refl))))
 
 bends_by : (s : Sense) (f g h : Ratio) (e u v : ℤ) → pos 0 <ℤ u → pos 0 <ℤ v → e *ℤ u ≡ (minus (plus g h) (plus f f)).top *ℤ v → Bends s f g h ↔ (pos 0 ≤ℤ by_sense s e)
-bends_by Min f g h e u v hu hv same = (sign_from (minus (plus g h) (plus f f)).top u e v hu hv (sym same), sign_from e v (minus (plus g h) (plus f f)).top u hv hu same)
+bends_by Min f g h e u v hu hv same = (
+  λ b. sign_from (minus (plus g h) (plus f f)).top u e v hu hv (sym same) ((at_most_gap (plus f f) (plus g h)).0 b),
+  λ b. (at_most_gap (plus f f) (plus g h)).1 (sign_from e v (minus (plus g h) (plus f f)).top u hv hu same b),
+)
 bends_by Max f g h e u v hu hv same = (
-  λ b. let l = sign_to (minus (plus g h) (plus f f)).top u e v hu hv (sym same) b in omega (arith, linear, l),
-  λ b. sign_to e v (minus (plus g h) (plus f f)).top u hv hu same (omega (arith, linear, b)),
+  λ b. let l = sign_to (minus (plus g h) (plus f f)).top u e v hu hv (sym same) ((at_most_over (plus g h) (plus f f)).0 b) in omega (arith, linear, l),
+  λ b. (at_most_over (plus g h) (plus f f)).1 (sign_to e v (minus (plus g h) (plus f f)).top u hv hu same (omega (arith, linear, b))),
 )
 
 -- ---- the matrix

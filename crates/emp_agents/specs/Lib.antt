@@ -1,2 +1,4 @@
+-- What a caller relies on
 pub mod Given
+-- Laws
 pub mod Convex

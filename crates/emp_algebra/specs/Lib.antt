@@ -1,3 +1,5 @@
+-- What a caller relies on
 pub mod Vector
-pub mod Laws
 pub mod Deciding
+-- Laws
+pub mod Laws

@@ -1,4 +1,4 @@
--- What is answered
+-- What a caller relies on
 pub mod Answers
 -- The numbers that texts name
 pub mod Laws

@@ -1,11 +1,11 @@
 -- Equal fractions are not told apart by the operations, the order and the signs.
-use Rattle.std.proofs.Common.{◌≡◌, ◌⊎◌, inl, inr, ℕ, zero, suc, ℤ, pos, negsuc, neg_ℤ, ◌+ℤ◌, ◌*ℤ◌, ◌<ℤ◌, ◌≤ℤ◌, [], ◌∷◌, arith, refl, sym, ap, ap₂, ◌∙◌}
+use Rattle.std.proofs.Common.{◌≡◌, ◌↔◌, ◌⊎◌, inl, inr, ℕ, zero, suc, ℤ, pos, negsuc, neg_ℤ, ◌+ℤ◌, ◌*ℤ◌, ◌<ℤ◌, ◌≤ℤ◌, [], ◌∷◌, arith, refl, sym, ap, ap₂, ◌∙◌}
 use Rattle.std.proofs.lemmas.Int.{ints}
 use lib.IntN.{zero-*ℤ}
 use Rattle.emp_algebra.proofs.Laws.{mul_nonneg, mul_pos, neg_ℤ-*ℤ}
 use Rattle.emp_algebra.proofs.Order.{linear, le_cancel_right, cancel_right, mul_le_right, le_or_lt}
-use Rattle.emp_algebra.proofs.Ring.{var, neg, ◌⊕◌, ◌⊗◌, by_ring}
-use Rattle.emp_num.specs.Ratio.{Ratio, ratio, negated, plus, minus, times, over_parts, over, power, SameRatio, AtMostRatio}
+use Rattle.emp_algebra.proofs.Ring.{var, lit, neg, ◌⊕◌, ◌⊗◌, by_ring}
+use Rattle.emp_num.specs.Ratio.{Ratio, nought, ratio, negated, plus, minus, times, over_parts, over, power, SameRatio, AtMostRatio}
 use Rattle.emp_num.proofs.SamePoints.{cross_on}
 use Rattle.emp_ast.specs.declared.tree.Operator.{Operator}
 use Rattle.emp_ast.specs.declared.tree.Operator.TheVariants.{Plus, Minus, Times, Over}
@@ -83,6 +83,24 @@ at_most_same x y z w h k l =
     let d = fraction_minus x y z w h k in
     let s = sign_to (minus x z).top (minus x z).bottom (minus y w).top (minus y w).bottom d.left d.right d.same (omega (arith, linear, neg_ℤ-*ℤ z.top x.bottom)) in
     omega (arith, linear, neg_ℤ-*ℤ w.top y.bottom)
+
+pub at_most_gap : (x y : Ratio) → AtMostRatio x y ↔ (pos 0 ≤ℤ (minus y x).top)
+at_most_gap x y = (λ l. omega (arith, linear, neg_ℤ-*ℤ x.top y.bottom), λ l. omega (arith, linear, neg_ℤ-*ℤ x.top y.bottom))
+
+pub at_most_over : (x y : Ratio) → AtMostRatio x y ↔ ((minus x y).top ≤ℤ pos 0)
+at_most_over x y = (λ l. omega (arith, linear, neg_ℤ-*ℤ y.top x.bottom), λ l. omega (arith, linear, neg_ℤ-*ℤ y.top x.bottom))
+
+pub from_nought : (x : Ratio) → AtMostRatio nought x ↔ (pos 0 ≤ℤ x.top)
+from_nought x =
+    let none : nought.top *ℤ x.bottom ≡ pos 0 = zero-*ℤ x.bottom in
+    let all : x.top *ℤ nought.bottom ≡ x.top = by_ring (x.top ∷ []) (var 0 ⊗ lit (pos 1)) (var 0) refl in
+    (λ l. omega (arith, linear, none, all), λ l. omega (arith, linear, none, all))
+
+pub to_nought : (x : Ratio) → AtMostRatio x nought ↔ (x.top ≤ℤ pos 0)
+to_nought x =
+    let none : nought.top *ℤ x.bottom ≡ pos 0 = zero-*ℤ x.bottom in
+    let all : x.top *ℤ nought.bottom ≡ x.top = by_ring (x.top ∷ []) (var 0 ⊗ lit (pos 1)) (var 0) refl in
+    (λ l. omega (arith, linear, none, all), λ l. omega (arith, linear, none, all))
 
 pub same_same : (x y z w : Ratio) → SameFraction x y → SameFraction z w → SameRatio x z → SameRatio y w
 same_same x y z w h k l =

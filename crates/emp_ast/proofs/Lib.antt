@@ -5,3 +5,4 @@ pub mod Fractions
 pub mod SameValues
 pub mod SameWords
 pub mod Given
+pub mod Defines

@@ -2,7 +2,7 @@
 use Rattle.std.proofs.Common.{◌≡◌, inl, inr, ℕ, ◌+◌, pos, ◌<ℤ◌, Bool, true, false, List, [], ◌∷◌, Option, Some, None, arith, refl, sym, ◌∙◌}
 use Rattle.std.specs.Prelude.{slice_get, filter}
 use Rattle.std.proofs.lemmas.Int.{ints}
-use Rattle.emp_num.specs.Ratio.{Ratio, ratio, plus, minus, times, SameRatio, AtMostRatio}
+use Rattle.emp_num.specs.Ratio.{Ratio, nought, ratio, plus, minus, times, SameRatio, AtMostRatio}
 use Rattle.emp_num.specs.Point.{Point, coordinate}
 use Rattle.emp_num.specs.SamePoint.{SamePoint}
 use Rattle.emp_num.proofs.SamePoints.{cross_on, same_itself, same_back}
@@ -20,7 +20,7 @@ use Rattle.emp_ast.specs.Multipliers.{AreComplementary, lagrangian, purpose, cha
 use Rattle.emp_ast.specs.Equilibrium.{IsEquilibrium}
 use Rattle.emp_ast.specs.Bilevel.{IsAdmissible, IsBetterBy, IsBetterForLeader, IsBest, IsAfterSteps, IsRay}
 use Rattle.emp_ast.specs.SameLaws.{SameValue, SamePointsAreOne}
-use Rattle.emp_ast.proofs.Fractions.{fraction_itself, fraction_plus, fraction_minus, fraction_times, same_same, at_most_same, better_same, sign_from, sign_none}
+use Rattle.emp_ast.proofs.Fractions.{fraction_itself, fraction_plus, fraction_minus, fraction_times, same_same, at_most_same, better_same, sign_none}
 use Rattle.emp_ast.proofs.SameValues.{joined_both, if_both, same_value, same_coordinate, same_meets, same_bounds, same_gap, same_flow, same_purpose, AreFractions, same_charge}
 
 -- equal fractions in the place of others
@@ -53,7 +53,7 @@ same_rival m a k p q r t h l d = record {
 
 -- ---- solved
 at_least_zero : (x y : Option Ratio) → SameValue x y → IsAtLeastZero x → IsAtLeastZero y
-at_least_zero (Some x) (Some y) h l = sign_from x.top x.bottom y.top y.bottom h.left h.right h.same l
+at_least_zero (Some x) (Some y) h l = at_most_same nought nought x y (fraction_itself nought (omega (arith, ints))) h l
 at_least_zero (Some x) None h l = h
 at_least_zero None y h l = absurd l
 
@@ -151,8 +151,7 @@ moved_back m a p q v w t r h k l = record {
       (same_coordinate r r (same_itself r) x)
       (fraction_plus (coordinate p x) (coordinate q x) (times step (coordinate v x)) (times step (coordinate w x)) (same_coordinate p q h x) moves)
       (l.moved x within free);
-  leader_given = l.leader_given;
-  given = l.given;
+  definitions = l.definitions;
 }
 
 pub same_ray : (m : Model) (a : Annot) (p q v w : Point) → SamePoint p q → SamePoint v w → IsRay m a p v → IsRay m a q w

@@ -5,9 +5,8 @@ use Rattle.emp_num.specs.Point.{Point, coordinate}
 use Rattle.emp_ast.specs.declared.model.Sense.{Sense}
 use Rattle.emp_ast.specs.declared.model.Model.{Model}
 use Rattle.emp_ast.specs.declared.annot.Annot.{Annot}
-use Rattle.emp_ast.specs.Meets.{MeetsEquation}
-use Rattle.emp_ast.specs.Parties.{leader, block, objective, is_defined, EachDefinition}
-use Rattle.emp_ast.specs.Rivals.{Fits, IsFeasible}
+use Rattle.emp_ast.specs.Parties.{leader, objective, is_defined}
+use Rattle.emp_ast.specs.Rivals.{Fits, MeetsDefinitions, IsFeasible}
 use Rattle.emp_ast.specs.Solved.{IsBetter}
 use Rattle.emp_ast.specs.Equilibrium.{IsEquilibrium}
 
@@ -31,13 +30,12 @@ pub record IsBest (m : Model) (a : Annot) (p : Point) : Type 0 where
   pub best : (q : Point) → IsAdmissible m a q → IsBetterForLeader m a q p → ⊥
 
 -- ---- rays
--- q is the point after t steps from p: p + t v on the variables that no equation defines, and on the others what their
--- definitions give
+-- q is the point after t steps from p: p + t v on the variables that no equation defines, and it meets the definitions of
+-- the others
 pub record IsAfterSteps (m : Model) (a : Annot) (p v : Point) (t : ℕ) (q : Point) : Type 0 where
   pub fits : Fits m q
   pub moved : (x : ℕ) → x < length m.variables → is_defined m a x ≡ false → SameRatio (coordinate q x) (plus (coordinate p x) (times (ratio (pos t) (pos 1)) (coordinate v x)))
-  pub leader_given : EachDefinition m a leader (λ e q'. MeetsEquation q q')
-  pub given : (k : ℕ) → k < length a.blocks → EachDefinition m a (block k) (λ e q'. MeetsEquation q q')
+  pub definitions : MeetsDefinitions m a q
 
 -- p is admissible, so is the point after each number of steps, and the leader's objective improves at each step
 pub record IsRay (m : Model) (a : Annot) (p v : Point) : Type 0 where

@@ -1,6 +1,6 @@
 -- When an agent is convex in some of its own variables.
-use Rattle.std.specs.Prelude.{◌≡◌, ℕ, pos, ◌≤ℤ◌, Bool, false, not, List, [], filter, take, slice_get, Option, Some, None}
-use Rattle.emp_num.specs.Ratio.{Ratio, plus, minus, SameRatio}
+use Rattle.std.specs.Prelude.{◌≡◌, ℕ, Bool, false, not, List, [], filter, take, slice_get, Option, Some, None}
+use Rattle.emp_num.specs.Ratio.{Ratio, plus, SameRatio, AtMostRatio}
 use Rattle.emp_num.specs.Point.{Point, coordinate}
 use Rattle.emp_ast.specs.declared.tree.VarId.{VarId}
 use Rattle.emp_ast.specs.declared.model.Sense.{Sense}
@@ -19,11 +19,11 @@ pub record IsBetween (m : Model) (inside : ℕ → Bool) (p q r : Point) : Type 
 
 -- the sum of the two outer values is at least twice the middle one for `min`, at most for `max`
 abbrev pub Bends : Sense → Ratio → Ratio → Ratio → Type 0
-Bends Min f g h = pos 0 ≤ℤ (minus (plus g h) (plus f f)).top
-Bends Max f g h = (minus (plus g h) (plus f f)).top ≤ℤ pos 0
+Bends Min f g h = AtMostRatio (plus f f) (plus g h)
+Bends Max f g h = AtMostRatio (plus g h) (plus f f)
 
--- the agent is convex in a set of variables: with f the given value of its objective, f(p + v) + f(p - v) - 2 f(p) is at
--- least 0 (at most 0 for `max`) for all points p and all steps v on the set
+-- the agent is convex in a set of variables: with f the given value of its objective, f(p + v) + f(p - v) is at least
+-- 2 f(p) (at most that for `max`) for all points p and all steps v on the set
 abbrev pub IsConvexIn : Model → Annot → ℕ → (ℕ → Bool) → Type 0
 IsConvexIn m a k inside =
     (s : Sense) (w : ℕ) → objective m a (block k) ≡ Some (s, w) → (p q r : Point) → IsBetween m inside p q r → (f g h : Ratio) → IsGiven m a (block k) p f → IsGiven m a (block k) q g → IsGiven m a (block k) r h → Bends s f g h

@@ -1,4 +1,4 @@
--- What the headline rests on
+-- What a caller relies on
 pub mod Expression
 pub mod Value
 pub mod Meets
@@ -11,8 +11,9 @@ pub mod Equilibrium
 pub mod Bilevel
 pub mod Convex
 pub mod Names
+pub mod Nodes
 -- Laws
+pub mod Defines
 pub mod SameLaws
 -- What only helps proofs
-pub mod Nodes
 pub mod Trees

@@ -1,6 +1,6 @@
 -- Multipliers of a block at a point.
-use Rattle.std.specs.Prelude.{◌≡◌, ◌⊎◌, ℕ, pos, ◌≤ℤ◌, ◌<ℤ◌, List, [], ◌∷◌, slice_get, Option, Some, None, option_map}
-use Rattle.emp_num.specs.Ratio.{Ratio, ratio, negated, plus, minus, times, AtMostRatio}
+use Rattle.std.specs.Prelude.{◌≡◌, ◌⊎◌, ℕ, pos, ◌<ℤ◌, List, [], ◌∷◌, slice_get, Option, Some, None, option_map}
+use Rattle.emp_num.specs.Ratio.{Ratio, nought, negated, plus, minus, times, AtMostRatio}
 use Rattle.emp_num.specs.Point.{Point, coordinate}
 use Rattle.emp_ast.specs.declared.tree.EquId.{EquId}
 use Rattle.emp_ast.specs.declared.model.Relation.{Relation}
@@ -19,8 +19,8 @@ use Rattle.emp_ast.specs.Solved.{sides_gap, gap, flow}
 -- at least 0 for `=G=`, at most 0 for `=L=`, free for `=E=` and 0 for `=N=`
 abbrev pub HasSign : Relation → Ratio → Type 0
 HasSign Equal u = Unit {0}
-HasSign AtLeast u = pos 0 ≤ℤ u.top
-HasSign AtMost u = u.top ≤ℤ pos 0
+HasSign AtLeast u = AtMostRatio nought u
+HasSign AtMost u = AtMostRatio u nought
 HasSign Nothing u = u.top ≡ pos 0
 
 -- the slack of the sides has a value, and it or the multiplier is 0
@@ -43,7 +43,7 @@ purpose m None p q = None
 
 -- the sum of multiplier times (left - right) at q
 abbrev pub charge : Model → (ℕ → Ratio) → Point → List EquId → Option Ratio
-charge m u q [] = Some (ratio (pos 0) (pos 1))
+charge m u q [] = Some nought
 charge m u q (e ∷ es) = both (λ x y. Some (plus x y)) (option_map (λ g. times (u e.at) g) (gap m q e.at)) (charge m u q es)
 
 -- the purpose minus the sum of multiplier times (left - right) over the constraints

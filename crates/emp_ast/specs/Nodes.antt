@@ -1,4 +1,5 @@
--- The nodes of an expression in postorder. This serves the proofs of readers and printers; no meaning cites it.
+-- The nodes of an expression in postorder, as model texts write them. The words of the readers and the printer cite them, and so do
+-- the models of the examples; no word of the headline does.
 use Rattle.std.specs.Prelude.{◌≡◌, ℕ, ◌+◌, ◌-◌, true, List, [], ◌∷◌, ◌++◌}
 use Rattle.emp_ast.specs.declared.tree.Operator.{Operator}
 use Rattle.emp_ast.specs.declared.tree.Operator.TheVariants.{Plus, Minus, Times, Over}

@@ -150,7 +150,8 @@ abbrev pub defines_by : Model → Annot → Party → ℕ → Option (Sense × �
 defines_by m a p e (Some w) = can_define m a e w.1 && has_alone m a p e
 defines_by m a p e None = false
 
--- equation e defines the party's objective: it can, and it is the party's alone
+-- equation e defines the party's objective: it can, and it is the party's alone; `DefinesObjective` is the same in one
+-- sentence
 abbrev pub defines : Model → Annot → Party → ℕ → Bool
 defines m a p e = defines_by m a p e (objective m a p)
 

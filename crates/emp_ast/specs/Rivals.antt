@@ -1,6 +1,6 @@
 -- What a party can do while the other variables stand: its given objective, its deviations and its rivals.
 -- Throughout, m is the model, a the annotation, k the party, p the point at which the others' variables stand.
-use Rattle.std.specs.Prelude.{◌≡◌, ℕ, ◌≢◌, pos, ◌<ℤ◌, length, Option, Some, None}
+use Rattle.std.specs.Prelude.{◌≡◌, ℕ, ◌<◌, ◌≢◌, pos, ◌<ℤ◌, true, length, Option, Some, None}
 use Rattle.emp_num.specs.Ratio.{Ratio, SameRatio}
 use Rattle.emp_num.specs.Point.{Point, coordinate}
 use Rattle.emp_ast.specs.declared.model.Equation.{Equation}
@@ -8,7 +8,7 @@ use Rattle.emp_ast.specs.declared.model.Sense.{Sense}
 use Rattle.emp_ast.specs.declared.model.Model.{Model}
 use Rattle.emp_ast.specs.declared.annot.Annot.{Annot}
 use Rattle.emp_ast.specs.Meets.{MeetsEquation, MeetsBounds}
-use Rattle.emp_ast.specs.Parties.{Party, objective, EachOwn, EachOther, EachDefinition, EachConstraint}
+use Rattle.emp_ast.specs.Parties.{Party, leader, block, objective, EachOwn, EachOther, EachDefinition, EachConstraint}
 
 -- one coordinate per variable of the model
 abbrev pub Fits : Model → Point → Type 0
@@ -32,6 +32,11 @@ IsGivenFor m a k None p given = ⊥
 -- the given value of the party's objective at the point
 abbrev pub IsGiven : Model → Annot → Party → Point → Ratio → Type 0
 IsGiven m a k p given = IsGivenFor m a k (objective m a k) p given
+
+-- the point meets each equation that defines an objective
+pub record MeetsDefinitions (m : Model) (a : Annot) (p : Point) : Type 0 where
+  pub blocks : (k : ℕ) → k < length a.blocks → EachDefinition m a (block k) (λ e q. MeetsEquation p q)
+  pub leads : a.bilevel ≡ true → EachDefinition m a leader (λ e q. MeetsEquation p q)
 
 -- ---- deviations and rivals
 -- r agrees with p on every variable that is not the party's own, is within the bounds of the own ones, and meets the

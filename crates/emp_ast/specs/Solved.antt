@@ -1,6 +1,6 @@
 -- When a block is solved at a point: no rival is better for an agent; for a variational inequality no rival lies against its function.
-use Rattle.std.specs.Prelude.{ℕ, pos, ◌*ℤ◌, ◌≤ℤ◌, ◌<ℤ◌, List, [], ◌∷◌, slice_get, Option, Some, None, option_map}
-use Rattle.emp_num.specs.Ratio.{Ratio, ratio, plus, minus, times}
+use Rattle.std.specs.Prelude.{ℕ, ◌*ℤ◌, ◌<ℤ◌, List, [], ◌∷◌, slice_get, Option, Some, None, option_map}
+use Rattle.emp_num.specs.Ratio.{Ratio, nought, plus, minus, times, AtMostRatio}
 use Rattle.emp_num.specs.Point.{Point, coordinate}
 use Rattle.emp_ast.specs.declared.tree.VarId.{VarId}
 use Rattle.emp_ast.specs.declared.tree.EquId.{EquId}
@@ -39,11 +39,11 @@ gap m p e = gap_by p (slice_get m.equations e)
 
 -- the sum, over the pairs, of the pair's function at p times a weight of its variable; a variable with function zero adds nothing
 abbrev pub flow : Model → Point → (ℕ → Ratio) → List (EquId × VarId) → Option Ratio
-flow m p weight [] = Some (ratio (pos 0) (pos 1))
+flow m p weight [] = Some nought
 flow m p weight (q ∷ qs) = both (λ x y. Some (plus x y)) (option_map (λ f. times f (weight q.1.at)) (gap m p q.0.at)) (flow m p weight qs)
 
 abbrev pub IsAtLeastZero : Option Ratio → Type 0
-IsAtLeastZero (Some x) = pos 0 ≤ℤ x.top
+IsAtLeastZero (Some x) = AtMostRatio nought x
 IsAtLeastZero None = ⊥
 
 -- the step from p to r

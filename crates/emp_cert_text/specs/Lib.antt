@@ -1,3 +1,4 @@
+-- What a caller relies on
 pub mod Text
 pub mod Writing
 pub mod Upgrading
@@ -5,4 +6,5 @@ pub mod Words
 pub mod Lines
 pub mod Course
 pub mod Reading
+-- Laws
 pub mod Laws

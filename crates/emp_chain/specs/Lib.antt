@@ -1,2 +1,4 @@
+-- What a caller relies on
 pub mod Members
+-- Laws
 pub mod Laws

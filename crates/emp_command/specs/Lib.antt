@@ -1,3 +1,4 @@
+-- What a caller relies on
 pub mod Words
 pub mod Lines
 pub mod Course

@@ -13,6 +13,7 @@ use Rattle.emp_num.specs.Point.{Point, StandsFor}
 use Rattle.emp_num.specs.Ratio.{Ratio}
 use Rattle.emp_num.specs.FracSpec.{IsQuotient}
 use Rattle.emp_num.specs.declared.frac.Frac.{Frac}
+use Rattle.emp_num.proofs.Standing.{stands_at}
 use Rattle.emp_rows.specs.declared.affine.Affine.{Affine}
 use Rattle.emp_rows.specs.declared.system.RowSystem.{RowSystem}
 use Rattle.emp_turns.specs.Choice.{toward}
@@ -130,7 +131,7 @@ module _ (s : RowSystem) (d : Dictionary) (t : IsDictionaryOf s d) (m n c : ℤ)
       go (g ∷ gs) e v st =
           let h : j < length d.columns = let q = t.columns in omega arith in
           let f : Frac = get_or (g ∷ gs) j g in
-          cross (cell x.nums j) n (y (Base (j + 1))) x.den f.num f.den (rat (Base (j + 1))).top (rat (Base (j + 1))).bottom f.positive (bottoms (Base (j + 1)) (base_labels j b)) (st.same j g (omega arith)) (v j g h) (told (Base (j + 1)) (base_labels j b))
+          cross (cell x.nums j) n (y (Base (j + 1))) x.den f.num f.den (rat (Base (j + 1))).top (rat (Base (j + 1))).bottom f.positive (bottoms (Base (j + 1)) (base_labels j b)) (stands_at (g ∷ gs) x st j g (omega arith)) (v j g h) (told (Base (j + 1)) (base_labels j b))
 
   pub tells : (w : Label) → IsLabelOf d w → worth s c x.nums w *ℤ (rat w).bottom ≡ (rat w).top *ℤ x.den
   tells w l = told_by (worth s c x.nums w) n (y w) x.den (rat w).top (rat w).bottom positive (worth_is s d t m c n x.den x.nums y true_rows count_nums heads bases w l) (told w l)

@@ -1,4 +1,7 @@
+-- What a caller relies on
 pub mod Reads
+-- Laws
 pub mod Laws
-pub mod Rows
 pub mod Example
+-- What only helps proofs
+pub mod Rows

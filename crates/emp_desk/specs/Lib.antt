@@ -1,3 +1,4 @@
+-- What a caller relies on
 pub mod CallLog
 pub mod Counts
 pub mod Desk

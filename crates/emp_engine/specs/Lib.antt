@@ -1,4 +1,4 @@
--- What the clauses of `run` say
+-- What a caller relies on
 pub mod Run
 -- What only helps proofs
 pub mod Ends

@@ -16,8 +16,8 @@ use Rattle.emp_ast.specs.Multipliers.{AreMultipliers}
 use Rattle.emp_ast.specs.Equilibrium.{is_priced}
 use Rattle.emp_ast.specs.Bilevel.{IsAdmissible, IsAfterSteps}
 use Rattle.emp_examples.specs.Small.{free, from, whole_point}
-use Rattle.emp_examples.specs.Bilevel.{ExamplesOfBilevel, ExamplesOfRays, z_is_y, x_to_y, led, led_by}
-use Rattle.emp_examples.proofs.Short.{each_of_two, each_of_three, below_one, below_three}
+use Rattle.emp_examples.specs.Bilevel.{ExamplesOfBilevel, ExamplesOfRays, z_is_y, x_to_y, led, led_by, lending, lending_by}
+use Rattle.emp_examples.proofs.Short.{each_of_two, each_of_three, below_one, below_three, from_zero}
 
 -- ---- points of the model
 follower_rival : (y : Variable) (p r : Point) → Fits (led y) r → SameRatio (coordinate r 0) (coordinate p 0) → SameRatio (coordinate r 1) (coordinate p 1) → IsRival (led y) led_by (block 0) p r
@@ -53,7 +53,7 @@ no_flow x y d w b h =
 follows : (y : Variable) (p : Point) → Fits (led y) p → SameRatio (coordinate p 2) (coordinate p 1) → IsSolved (led y) led_by 0 p
 follows y p fits h = record {
   feasible = follower_rival y p p fits refl refl;
-  best = λ r rival. no_flow (cell p.nums 2) (cell p.nums 1) p.den (minus (coordinate r 2) (coordinate p 2)).top (p.den *ℤ p.den *ℤ pos 1 *ℤ (r.den *ℤ p.den)) h;
+  best = λ r rival. from_zero _ (p.den *ℤ p.den *ℤ pos 1 *ℤ (r.den *ℤ p.den) *ℤ pos 1) (no_flow (cell p.nums 2) (cell p.nums 1) p.den (minus (coordinate r 2) (coordinate p 2)).top (p.den *ℤ p.den *ℤ pos 1 *ℤ (r.den *ℤ p.den)) h);
 }
 
 pub admissible : (y : Variable) (p : Point) → Fits (led y) p → MeetsBounds p 1 y → MeetsEquation p z_is_y → SameRatio (coordinate p 2) (coordinate p 1) → IsAdmissible (led y) led_by p
@@ -90,6 +90,8 @@ examples_of_bilevel = record {
     best = λ q h better. not_below (cell q.nums 0) (cell q.nums 1) q.den q.positive (h.leads.deviation.definition 0 z_is_y refl refl) (h.leads.deviation.bounds 1 (from 0) refl refl).0 better;
   };
   not_best_at_one = λ h. h.best (whole_point (pos 0 ∷ pos 0 ∷ pos 0 ∷ [])) (admissible (from 0) (whole_point (pos 0 ∷ pos 0 ∷ pos 0 ∷ [])) refl (omega (arith, ints), tt) refl refl) (omega (arith, ints));
+  not_best_off_equation = λ h. let l = h.admissible.leads.deviation.definition 0 z_is_y refl refl in omega (arith, ints);
+  greater = omega (arith, ints);
   no_objective = λ h. h;
 }
 
@@ -102,8 +104,10 @@ after : (y : Variable) (v : Point) (t : ℕ) (q : Point) → Fits (led y) q → 
 after y v t q fits d one two = record {
   fits = fits;
   moved = below_three (λ x. is_defined (led y) led_by x ≡ false → SameRatio (coordinate q x) (plus (coordinate origin x) (times (ratio (pos t) (pos 1)) (coordinate v x)))) (λ h. cc) (λ h. one) (λ h. two);
-  leader_given = each_of_two (λ e c. defines (led y) led_by leader e ≡ true → MeetsEquation q c) z_is_y x_to_y (λ h. d) (λ h. cc);
-  given = below_one (λ k. EachDefinition (led y) led_by (block k) (λ e c. MeetsEquation q c)) (λ e c at h. cc);
+  definitions = record {
+    blocks = below_one (λ k. EachDefinition (led y) led_by (block k) (λ e c. MeetsEquation q c)) (λ e c at h. cc);
+    leads = λ b. each_of_two (λ e c. defines (led y) led_by leader e ≡ true → MeetsEquation q c) z_is_y x_to_y (λ h. d) (λ h. cc);
+  };
 }
 
 fallen : ℕ → Point
@@ -132,8 +136,8 @@ examples_of_rays = record {
       record {
         start = admissible free origin refl (tt, tt) refl refl;
         after = λ t. (fallen t, after free v t (fallen t) refl refl (fallen_moves (pos t)) (fallen_moves (pos t)));
-        admissible = λ t q h. admissible free q h.fits (tt, tt) (h.leader_given 0 z_is_y refl refl) (same_moves (cell q.nums 2) (cell q.nums 1) _ q.den (h.moved 2 (omega arith) refl) (h.moved 1 (omega arith) refl));
-        improves = λ t q r h k. falls_more (cell q.nums 0) (cell q.nums 1) q.den (cell r.nums 0) (cell r.nums 1) r.den (pos t) (pos (t + 1)) q.positive r.positive (h.leader_given 0 z_is_y refl refl) (k.leader_given 0 z_is_y refl refl) (h.moved 1 (omega arith) refl) (k.moved 1 (omega arith) refl) (omega (arith, ints));
+        admissible = λ t q h. admissible free q h.fits (tt, tt) (h.definitions.leads refl 0 z_is_y refl refl) (same_moves (cell q.nums 2) (cell q.nums 1) _ q.den (h.moved 2 (omega arith) refl) (h.moved 1 (omega arith) refl));
+        improves = λ t q r h k. falls_more (cell q.nums 0) (cell q.nums 1) q.den (cell r.nums 0) (cell r.nums 1) r.den (pos t) (pos (t + 1)) q.positive r.positive (h.definitions.leads refl 0 z_is_y refl refl) (k.definitions.leads refl 0 z_is_y refl refl) (h.moved 1 (omega arith) refl) (k.moved 1 (omega arith) refl) (omega (arith, ints));
       };
   rises = λ h.
       let v = whole_point (pos 0 ∷ pos 1 ∷ pos 1 ∷ []) in
@@ -146,6 +150,21 @@ examples_of_rays = record {
       let r = whole_point (negsuc 0 ∷ negsuc 0 ∷ negsuc 0 ∷ []) in
       let l = ((h.admissible 1 q (after free v 1 q refl refl refl refl)).follows.solved 0 (omega arith)).best r (follower_rival free q r refl refl refl) in
       absurd l.le;
+  stays = λ h. let l = h.improves 0 origin origin (after free origin 0 origin refl refl refl refl) (after free origin 1 origin refl refl refl refl) in omega (arith, ints);
+  starts_off = λ h. let l = h.start.leads.deviation.definition 0 z_is_y refl refl in omega (arith, ints);
+  takes_given =
+      let p = whole_point (pos 0 ∷ pos 0 ∷ pos 0 ∷ []) in
+      let v = whole_point (pos 5 ∷ pos 1 ∷ pos 5 ∷ []) in
+      let q = whole_point (pos 2 ∷ pos 2 ∷ pos 2 ∷ []) in
+      record {
+        fits = refl;
+        moved = below_three (λ x. is_defined lending lending_by x ≡ false → SameRatio (coordinate q x) (plus (coordinate p x) (times (ratio (pos 2) (pos 1)) (coordinate v x)))) (λ h. cc) (λ h. refl) (λ h. cc);
+        definitions = record {
+          blocks = below_one (λ k. EachDefinition lending lending_by (block k) (λ e c. MeetsEquation q c)) (each_of_two (λ e c. defines lending lending_by (block 0) e ≡ true → MeetsEquation q c) z_is_y _ (λ h. cc) (λ h. refl));
+          leads = λ b. each_of_two (λ e c. defines lending lending_by leader e ≡ true → MeetsEquation q c) z_is_y _ (λ h. refl) (λ h. cc);
+        };
+      };
+  not_by_step = λ h. let l = h.definitions.blocks 0 (omega arith) 1 _ refl refl in omega (arith, ints);
   bounded = λ h.
       let v = whole_point (pos 0 ∷ negsuc 0 ∷ negsuc 0 ∷ []) in
       let q = whole_point (negsuc 0 ∷ negsuc 0 ∷ negsuc 0 ∷ []) in

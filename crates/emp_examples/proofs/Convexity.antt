@@ -14,7 +14,7 @@ use Rattle.emp_ast.specs.Parties.{block, names_variable, defines}
 use Rattle.emp_ast.specs.Rivals.{MakesHold, IsGiven}
 use Rattle.emp_ast.specs.Convex.{IsBetween, Bends, counted}
 use Rattle.emp_ast.specs.SameLaws.{SameFraction}
-use Rattle.emp_ast.proofs.Fractions.{fraction_itself, fraction_on, fraction_plus, fraction_minus, fraction_times, same_same, sign_from, sign_to}
+use Rattle.emp_ast.proofs.Fractions.{fraction_itself, fraction_on, fraction_plus, fraction_minus, fraction_times, same_same, sign_from, sign_to, at_most_gap, at_most_over}
 use Rattle.emp_ast.proofs.Given.{put, put_there, put_elsewhere}
 use Rattle.emp_examples.specs.Small.{whole_point}
 use Rattle.emp_examples.specs.Parties.{c_is_square}
@@ -77,8 +77,9 @@ bends_min : (p q r : Point) (f g h : Ratio) → SameRatio (plus (coordinate q 1)
 unfolding second square_of
 bends_min p q r f g h half a b c =
     let d = same_second f g h (square_of p) (square_of q) (square_of r) (given_square Min p f a) (given_square Min q g b) (given_square Min r h c) in
-    sign_from (second (square_of p) (square_of q) (square_of r)).top (second (square_of p) (square_of q) (square_of r)).bottom (second f g h).top (second f g h).bottom d.right d.left (sym d.same)
-    (squares_bend (cell p.nums 1) p.den (cell q.nums 1) q.den (cell r.nums 1) r.den half)
+    (at_most_gap (plus f f) (plus g h)).1
+    (sign_from (second (square_of p) (square_of q) (square_of r)).top (second (square_of p) (square_of q) (square_of r)).bottom (second f g h).top (second f g h).bottom d.right d.left (sym d.same)
+    (squares_bend (cell p.nums 1) p.den (cell q.nums 1) q.den (cell r.nums 1) r.den half))
 
 -- where no variable moves the second difference is 0
 bends_none : (p q r : Point) (f g h : Ratio) → SameRatio (coordinate q 1) (coordinate p 1) → SameRatio (coordinate r 1) (coordinate p 1) → IsGiven (curved c_is_square) (curved_by Max) (block 0) p f → IsGiven (curved c_is_square) (curved_by Max) (block 0) q g → IsGiven (curved c_is_square) (curved_by Max) (block 0) r h → Bends Max f g h
@@ -88,7 +89,7 @@ bends_none p q r f g h q_same r_same a b c =
     let d = same_second f g h s s s (given_square Max p f a) (fraction_on g (square_of q) s (given_square Max q g b) (same_square q p q_same)) (fraction_on h (square_of r) s (given_square Max r h c) (same_square r p r_same)) in
     let t = plus s s in
     let none : t.top *ℤ t.bottom +ℤ neg_ℤ t.top *ℤ t.bottom ≡ pos 0 = by_ring (t.top ∷ t.bottom ∷ []) (var 0 ⊗ var 1 ⊕ neg (var 0) ⊗ var 1) (lit (pos 0)) refl in
-    sign_to (second s s s).top (second s s s).bottom (second f g h).top (second f g h).bottom d.right d.left (sym d.same) (omega (arith, linear))
+    (at_most_over (plus g h) (plus f f)).1 (sign_to (second s s s).top (second s s s).bottom (second f g h).top (second f g h).bottom d.right d.left (sym d.same) (omega (arith, linear)))
 
 between_ones : IsBetween (curved c_is_square) (λ v. names_variable (counted (curved c_is_square) (curved_by Max) 0) v) (whole_point (pos 0 ∷ pos 0 ∷ [])) (whole_point (pos 0 ∷ pos 1 ∷ [])) (whole_point (pos 0 ∷ negsuc 0 ∷ []))
 between_ones = record { fits = (refl, refl, refl); half = half; outside = outside }
@@ -123,5 +124,13 @@ examples_of_convexity = record {
       let r = whole_point (pos 0 ∷ negsuc 0 ∷ []) in
       let l = h Max 0 refl p q r between_ones (square_of p) (square_of q) (square_of r) (is_given Max p) (is_given Max q) (is_given Max r) in
       absurd l.le;
+  not_up_to_one = λ h.
+      let p = whole_point (pos 0 ∷ pos 0 ∷ []) in
+      let q = whole_point (pos 0 ∷ pos 1 ∷ []) in
+      let r = whole_point (pos 0 ∷ negsuc 0 ∷ []) in
+      let l = h Max 0 refl p q r between_ones (square_of p) (square_of q) (square_of r) (is_given Max p) (is_given Max q) (is_given Max r) in
+      absurd l.le;
+  bends_down = omega (arith, ints);
+  bends_up = λ h. omega (arith, ints);
   in_none = λ s w e p q r b f g h i j k. subst (λ (o : Sense × ℕ). Bends o.0 f g h) (same_Some (Max, 0) (s, w) e) (bends_none p q r f g h (b.outside 1 refl) (third_side (cell p.nums 1) p.den (cell q.nums 1) q.den (cell r.nums 1) r.den p.positive q.positive (b.outside 1 refl) (b.half 1)) i j k);
 }

@@ -14,6 +14,7 @@ use Rattle.emp_ast.specs.Rivals.{Fits, IsDeviation}
 use Rattle.emp_ast.specs.Solved.{sides_gap, IsSolved}
 use Rattle.emp_ast.specs.Multipliers.{IsMultiplier, AreMultipliers}
 use Rattle.emp_ast.specs.Equilibrium.{is_priced}
+use Rattle.emp_ast.proofs.Fractions.{from_nought}
 use Rattle.emp_examples.specs.Small.{free, equ, var as variable_of, whole_point}
 use Rattle.emp_examples.specs.Parties.{c_is_square, x_from_one}
 use Rattle.emp_examples.specs.Multipliers.{ExamplesOfMultipliers, all_are, bound, bound_by, x_as_it_is, no_slack, priced, priced_by}
@@ -143,9 +144,11 @@ examples_of_multipliers = record {
       shared = λ j k e at_j at_k named h l. cc;
     };
   };
+  priced_stands = λ h. let l = h.deviation.others 2 (omega arith) refl in omega (arith, ints);
+  both_priced = λ h. let l = h.duals 1 1 (variable_of 5, equ 3) (omega arith) refl refl in omega (arith, ints);
   priced_wrong_sign = λ h.
       let u = (h.prices.multipliers 0 (omega arith) refl).each 1 x_from_one refl refl in
-      not_below_zero (h.choice 0 1).top (h.choice 0 1).bottom u.sign u.fraction (h.prices.duals 0 0 (variable_of 2, equ 1) (omega arith) refl refl);
+      not_below_zero (h.choice 0 1).top (h.choice 0 1).bottom ((from_nought (h.choice 0 1)).0 u.sign) u.fraction (h.prices.duals 0 0 (variable_of 2, equ 1) (omega arith) refl refl);
   priced_not_least = λ h.
       let m = h.prices.multipliers 0 (omega arith) refl in
       let u = m.each 1 x_from_one refl refl in

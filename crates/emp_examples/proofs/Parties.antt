@@ -30,6 +30,8 @@ examples_of_parties = record {
   counted_both = refl;
   objective_c = refl;
   no_objective = refl;
+  leader_least = refl;
+  leader_greatest = refl;
 }
 
 pub examples_of_implicits : ExamplesOfImplicits
@@ -39,6 +41,7 @@ examples_of_implicits = record {
   first_not_other = refl;
   first_has = refl;
   second_has = refl;
+  other_has_not = refl;
   first_constraint = refl;
   not_left = refl;
   left = refl;
@@ -51,16 +54,19 @@ examples_of_definitions = record {
   square_defines = refl;
   taken_defines = refl;
   on_the_right = refl;
+  negated_defines = refl;
   under_product = refl;
   under_quotient = refl;
   under_divisor = refl;
   under_power = refl;
   no_equality = refl;
+  no_lower_equality = refl;
   no_relation = refl;
   twice = refl;
   elsewhere = refl;
   right_elsewhere = refl;
   power_elsewhere = refl;
+  negated_elsewhere = refl;
   x_elsewhere = refl;
   bounded_above = refl;
   bounded_below = refl;

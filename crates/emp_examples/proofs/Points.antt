@@ -5,6 +5,7 @@ use Rattle.emp_algebra.specs.Vector.{cell}
 use Rattle.emp_num.specs.Point.{Point, StandsFor}
 use Rattle.emp_num.specs.Whole.{whole}
 use Rattle.emp_num.specs.declared.frac.Frac.{Frac}
+use Rattle.emp_num.proofs.Standing.{stands_at, stands_from}
 use Rattle.emp_examples.specs.Points.{IsTwoAndThree, ExamplesOfPoints}
 
 module _ (p : Point) (h : IsTwoAndThree p) where
@@ -21,7 +22,7 @@ module _ (p : Point) (h : IsTwoAndThree p) where
 
   not_other : StandsFor (whole 2 ∷ whole 4 ∷ []) p → ⊥
   not_other s =
-      let e : pos 4 *ℤ p.den ≡ cell p.nums 1 *ℤ pos 1 = s.same 1 (whole 0) (omega arith) in
+      let e : pos 4 *ℤ p.den ≡ cell p.nums 1 *ℤ pos 1 = stands_at (whole 2 ∷ whole 4 ∷ []) p s 1 (whole 0) (omega arith) in
       let k : pos 8 ≡ pos 6 = subst₂ (λ x d. pos 4 *ℤ d ≡ x *ℤ pos 1) at_second h.den e in
       omega (arith, ints)
 
@@ -32,7 +33,7 @@ examples_of_points = record {
   second = λ p h. subst₂ (λ x d. x *ℤ pos 1 ≡ pos 3 *ℤ d) (sym (at_second p h)) (sym h.den) refl;
   no_first = λ p h e. let k : pos 4 ≡ pos 8 = subst₂ (λ x d. x *ℤ pos 1 ≡ pos 4 *ℤ d) (at_first p h) h.den e in omega (arith, ints);
   den_above = λ p e. let l = p.positive in omega (arith, ints);
-  stands = λ p h. record { count = ap length h.nums; same = each p h };
+  stands = λ p h. stands_from (whole 2 ∷ whole 3 ∷ []) p (ap length h.nums) (each p h);
   other = λ p h s. not_other p h s;
   fewer = λ p h s. let n = s.count in let k = ap length h.nums in omega arith;
 }

@@ -16,6 +16,7 @@ use Rattle.emp_ast.specs.Parties.{block, owns, defines, is_constraint}
 use Rattle.emp_ast.specs.Rivals.{Fits, IsDeviation}
 use Rattle.emp_ast.specs.Solved.{IsSolved, sides_gap}
 use Rattle.emp_ast.specs.Multipliers.{IsMultiplier, AreMultipliers}
+use Rattle.emp_ast.proofs.Fractions.{to_nought}
 use Rattle.emp_examples.specs.Small.{free, equ, var as variable_of, whole_point}
 use Rattle.emp_examples.specs.Multipliers.{all_are}
 use Rattle.emp_examples.specs.Sharing.{ExamplesOfRations, shifted_square, sum_to_two, rationed, rationed_by}
@@ -142,7 +143,7 @@ examples_of_rations = record {
   };
   wrong_sign = λ h.
       let u = (h.prices.multipliers 0 (omega arith) refl).each 2 sum_to_two refl refl in
-      not_above_zero (h.choice 0 2).top (h.choice 0 2).bottom u.sign u.fraction (h.prices.duals 0 0 (variable_of 4, equ 2) (omega arith) refl refl);
+      not_above_zero (h.choice 0 2).top (h.choice 0 2).bottom ((to_nought (h.choice 0 2)).0 u.sign) u.fraction (h.prices.duals 0 0 (variable_of 4, equ 2) (omega arith) refl refl);
   slack = λ h.
       let p = whole_point (pos 4 ∷ pos 1 ∷ pos 0 ∷ pos 1 ∷ pos 0 ∷ []) in
       let r = whole_point (pos 1 ∷ pos 1 ∷ pos 1 ∷ pos 1 ∷ pos 0 ∷ []) in

@@ -50,4 +50,10 @@ examples_of_rules = record {
   implicit_paired = refl;
   no_tie = refl;
   tie = refl;
+  two_equations = refl;
+  two_implicits = refl;
+  low_of_nothing = refl;
+  high_of_nothing = refl;
+  implicit_leader = refl;
+  implicit_dual = refl;
 }

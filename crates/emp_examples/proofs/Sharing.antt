@@ -20,7 +20,7 @@ use Rattle.emp_ast.specs.Equilibrium.{is_priced, IsEquilibrium}
 use Rattle.emp_examples.specs.Small.{free, equ, whole_point}
 use Rattle.emp_examples.specs.Multipliers.{all_are}
 use Rattle.emp_examples.specs.Sharing.{ExamplesOfSharing, shared_sum, sharing, sharing_by}
-use Rattle.emp_examples.proofs.Short.{each_of_two, each_of_three, below_two, le_by}
+use Rattle.emp_examples.proofs.Short.{each_of_two, each_of_three, below_two, le_by, from_zero}
 
 -- ---- the sum of the coordinates where the other one is o
 total : (r s o d : ℤ) → s *ℤ pos 1 ≡ o *ℤ d → r *ℤ d +ℤ s *ℤ d ≡ r *ℤ d +ℤ o *ℤ d *ℤ d
@@ -93,7 +93,7 @@ left_solved vs = let p = left_point in below_two (λ k. IsSolved sharing (sharin
           let x = cell r.nums 0 in
           let y = cell r.nums 1 in
           let low : (pos 1 *ℤ r.den) ≤ℤ x = own_up (pos 1) (pos 2) x (x *ℤ r.den +ℤ y *ℤ r.den) r.den r.positive refl (total x y (pos 2) r.den (h.deviation.others 1 (omega arith) refl)) (h.constraints 2 shared_sum refl refl) in
-          flow_up (pos 1) x (negsuc 0) r.den (pos 1 *ℤ (r.den *ℤ pos 1)) (omega (arith, ints)) (omega (arith, ints));
+          from_zero _ (pos 1 *ℤ (r.den *ℤ pos 1) *ℤ pos 1) (flow_up (pos 1) x (negsuc 0) r.den (pos 1 *ℤ (r.den *ℤ pos 1)) (omega (arith, ints)) (omega (arith, ints)));
     })
     (record {
       feasible = record { deviation = second_deviation vs p p refl refl; constraints = of_second vs (λ e q. MeetsEquation p q) (omega (arith, ints)) };
@@ -101,7 +101,7 @@ left_solved vs = let p = left_point in below_two (λ k. IsSolved sharing (sharin
           let x = cell r.nums 0 in
           let y = cell r.nums 1 in
           let low : (pos 2 *ℤ r.den) ≤ℤ y = own_up (pos 2) (pos 1) y (x *ℤ r.den +ℤ y *ℤ r.den) r.den r.positive refl (+ℤ_comm (x *ℤ r.den) (y *ℤ r.den) ∙ total y x (pos 1) r.den (h.deviation.others 0 (omega arith) refl)) (h.constraints 2 shared_sum refl refl) in
-          flow_up (pos 4) y (negsuc 1) r.den (pos 1 *ℤ (r.den *ℤ pos 1)) (omega (arith, ints)) (omega (arith, ints));
+          from_zero _ (pos 1 *ℤ (r.den *ℤ pos 1) *ℤ pos 1) (flow_up (pos 4) y (negsuc 1) r.den (pos 1 *ℤ (r.den *ℤ pos 1)) (omega (arith, ints)) (omega (arith, ints)));
     })
 
 right_solved : (vs : List EquId) (k : ℕ) → k < 2 → IsSolved sharing (sharing_by vs) k right_point
@@ -113,7 +113,7 @@ right_solved vs = let p = right_point in below_two (λ k. IsSolved sharing (shar
           let x = cell r.nums 0 in
           let y = cell r.nums 1 in
           let low : (pos 2 *ℤ r.den) ≤ℤ x = own_up (pos 2) (pos 1) x (x *ℤ r.den +ℤ y *ℤ r.den) r.den r.positive refl (total x y (pos 1) r.den (h.deviation.others 1 (omega arith) refl)) (h.constraints 2 shared_sum refl refl) in
-          flow_up (pos 2) x (negsuc 1) r.den (pos 1 *ℤ (r.den *ℤ pos 1)) (omega (arith, ints)) (omega (arith, ints));
+          from_zero _ (pos 1 *ℤ (r.den *ℤ pos 1) *ℤ pos 1) (flow_up (pos 2) x (negsuc 1) r.den (pos 1 *ℤ (r.den *ℤ pos 1)) (omega (arith, ints)) (omega (arith, ints)));
     })
     (record {
       feasible = record { deviation = second_deviation vs p p refl refl; constraints = of_second vs (λ e q. MeetsEquation p q) (omega (arith, ints)) };
@@ -121,7 +121,7 @@ right_solved vs = let p = right_point in below_two (λ k. IsSolved sharing (shar
           let x = cell r.nums 0 in
           let y = cell r.nums 1 in
           let low : (pos 1 *ℤ r.den) ≤ℤ y = own_up (pos 1) (pos 2) y (x *ℤ r.den +ℤ y *ℤ r.den) r.den r.positive refl (+ℤ_comm (x *ℤ r.den) (y *ℤ r.den) ∙ total y x (pos 2) r.den (h.deviation.others 0 (omega arith) refl)) (h.constraints 2 shared_sum refl refl) in
-          flow_up (pos 2) y (negsuc 0) r.den (pos 1 *ℤ (r.den *ℤ pos 1)) (omega (arith, ints)) (omega (arith, ints));
+          from_zero _ (pos 1 *ℤ (r.den *ℤ pos 1) *ℤ pos 1) (flow_up (pos 2) y (negsuc 0) r.den (pos 1 *ℤ (r.den *ℤ pos 1)) (omega (arith, ints)) (omega (arith, ints)));
     })
 
 -- ---- multipliers

@@ -2,6 +2,8 @@
 use Rattle.std.proofs.Common.{◌≡◌, ℕ, zero, suc, ◌<◌, ℤ, pos, ◌+ℤ◌, ◌*ℤ◌, ◌≤ℤ◌, ◌<ℤ◌, [], ◌∷◌, Some, arith, subst}
 use Rattle.std.specs.List.{slice_get}
 use Rattle.emp_algebra.proofs.Order.{linear, le_cancel_right}
+use Rattle.emp_num.specs.Ratio.{ratio}
+use Rattle.emp_ast.proofs.Fractions.{from_nought}
 
 pub each_of_one : {A : Type 0} (P : ℕ → A → Type 0) (a : A) → P 0 a → (k : ℕ) (x : A) → slice_get (a ∷ []) k ≡ Some x → P k x
 each_of_one P a h zero x e = let same : a ≡ x = cc in subst (λ y. P 0 y) same h
@@ -43,3 +45,7 @@ le_by {l} {r} {a} {b} k s d up same right left above = le_cancel_right l r d (om
 
 pub below_not_above : (x y : ℤ) → x ≤ℤ y → y <ℤ x → ⊥
 below_not_above x y h k = omega (arith, linear)
+
+-- 0 is at most a quotient whose upper number is not below 0
+pub from_zero : (t b : ℤ) → pos 0 ≤ℤ t → (pos 0 *ℤ b) ≤ℤ (t *ℤ pos 1)
+from_zero t b = (from_nought (ratio t b)).1

@@ -19,11 +19,14 @@ examples_of_values = record {
   power_zero = refl;
   power_two = refl;
   meets_at_three = omega (arith, ints);
+  at_most_meets_at_one = omega (arith, ints);
   misses_at_one = λ h. omega (arith, ints);
   at_most_misses_at_three = λ h. omega (arith, ints);
   equal_misses_at_three = λ h. omega (arith, ints);
+  right_without_value = λ h. h;
   none_meets_nothing = λ h. h;
   each_meets = tt;
+  opposite_meets = omega (arith, ints);
   bound_at_two = (tt, omega (arith, ints));
   bound_at_three = λ h. let l = h.1 in omega (arith, ints);
   bound_at_halves = λ h. omega (arith, ints);

@@ -1,4 +1,6 @@
+-- What a caller relies on
 pub mod Small
+-- Laws
 pub mod Points
 pub mod Values
 pub mod Parties

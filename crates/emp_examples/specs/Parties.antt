@@ -1,7 +1,7 @@
 -- Who owns which variables, who has which equations, which equation defines an objective, and which are constraints.
 use Rattle.std.specs.Prelude.{◌≡◌, Bool, true, false, List, [], ◌∷◌, Some, None}
 use Rattle.emp_ast.specs.declared.tree.EquId.{EquId}
-use Rattle.emp_ast.specs.declared.model.Relation.TheVariants.{Equal, AtLeast, Nothing}
+use Rattle.emp_ast.specs.declared.model.Relation.TheVariants.{Equal, AtLeast, AtMost, Nothing}
 use Rattle.emp_ast.specs.declared.model.Equation.{Equation}
 use Rattle.emp_ast.specs.declared.model.Sense.TheVariants.{Min, Max}
 use Rattle.emp_ast.specs.declared.model.Variable.{Variable}
@@ -9,7 +9,7 @@ use Rattle.emp_ast.specs.declared.model.Model.{Model}
 use Rattle.emp_ast.specs.declared.annot.Block.{Block}
 use Rattle.emp_ast.specs.declared.annot.Block.TheVariants.{Agent, Vi}
 use Rattle.emp_ast.specs.declared.annot.Annot.{Annot}
-use Rattle.emp_ast.specs.Expression.{Expression, variable, power}
+use Rattle.emp_ast.specs.Expression.{Expression, variable, negated, power}
 use Rattle.emp_ast.specs.Parties.{leader, block, owns, equations, objective, defines, is_constraint, constraints, is_defined}
 use Rattle.emp_ast.specs.Convex.{counted}
 use Rattle.emp_examples.specs.Small.{sum, difference, product, quotient, numeral, equation, free, from, up_to, var, equ, model, equilibrium, with_duals, with_implicits, bilevel, with_goal}
@@ -64,6 +64,8 @@ pub record ExamplesOfParties : Type 0 where
   -- `min` or `max` with its variable, and none for a variational inequality
   pub objective_c : objective seven seven_by (block 0) ≡ Some (Min, 1)
   pub no_objective : objective seven seven_by (block 1) ≡ None
+  pub leader_least : objective seven seven_by leader ≡ Some (Min, 0)
+  pub leader_greatest : objective (with_goal Max 0 seven) seven_by leader ≡ Some (Max, 0)
 
 -- ---- implicit variables: the variables are a, b, x, y, v, and the annotation is
 -- `equilibrium implicit v e min a x v da min b y v db` with da.. a =e= sqr(x) + v, db.. b =e= y and e.. v =e= x + y
@@ -84,6 +86,8 @@ pub record ExamplesOfImplicits : Type 0 where
   pub first_not_other : owns implied implied_by (block 0) 3 ≡ false
   pub first_has : equations implied implied_by (block 0) ≡ equ 0 ∷ equ 2 ∷ []
   pub second_has : equations implied implied_by (block 1) ≡ equ 1 ∷ equ 2 ∷ []
+  -- a block that does not list v has not e
+  pub other_has_not : equations implied (with_implicits ((var 4, equ 2) ∷ []) (equilibrium (Agent Min (var 0) (var 2 ∷ var 4 ∷ []) (equ 0 ∷ []) ∷ Agent Min (var 1) (var 3 ∷ []) (equ 1 ∷ []) ∷ []))) (block 1) ≡ equ 1 ∷ []
   pub first_constraint : constraints implied implied_by (block 0) ≡ equ 2 ∷ []
   pub not_left : equations implied implied_by leader ≡ []
   -- without `implicit` the equation is in no block
@@ -119,22 +123,25 @@ defines_by_one q = defines_c free_pair (q ∷ [])
 
 pub record ExamplesOfDefinitions : Type 0 where
   pub square_defines : defines_by_one c_is_square ≡ true
-  -- x*x - c =e= 0 and -(x - c) =e= 1
+  -- x*x - c =e= 0, 0 =e= x*x - c and -(x - c) =e= 1
   pub taken_defines : defines_by_one (equation (difference square (variable 0)) Equal (numeral 0)) ≡ true
   pub on_the_right : defines_by_one (equation (numeral 0) Equal (difference square (variable 0))) ≡ true
+  pub negated_defines : defines_by_one (equation (negated (difference (variable 1) (variable 0))) Equal (numeral 1)) ≡ true
   -- c*x =e= 1, c/2 =e= x, 2/c =e= x, c**1 =e= x
   pub under_product : defines_by_one (equation (product (variable 0) (variable 1)) Equal (numeral 1)) ≡ false
   pub under_quotient : defines_by_one (equation (quotient (variable 0) (numeral 2)) Equal (variable 1)) ≡ false
   pub under_divisor : defines_by_one (equation (quotient (numeral 2) (variable 0)) Equal (variable 1)) ≡ false
   pub under_power : defines_by_one (equation (power (variable 0) 1) Equal (variable 1)) ≡ false
-  -- c =g= x*x and c =n= x*x
+  -- c =g= x*x, c =l= x*x and c =n= x*x
   pub no_equality : defines_by_one (equation (variable 0) AtLeast square) ≡ false
+  pub no_lower_equality : defines_by_one (equation (variable 0) AtMost square) ≡ false
   pub no_relation : defines_by_one (equation (variable 0) Nothing square) ≡ false
   -- c =e= x + c, and c on the left and on the right of a second equation, also under a power
   pub twice : defines_by_one (equation (variable 0) Equal (sum (variable 1) (variable 0))) ≡ false
   pub elsewhere : defines_c free_pair (c_is_square ∷ equation (variable 0) AtLeast (numeral 0) ∷ []) ≡ false
   pub right_elsewhere : defines_c free_pair (c_is_square ∷ equation (variable 1) AtLeast (variable 0) ∷ []) ≡ false
   pub power_elsewhere : defines_c free_pair (c_is_square ∷ equation (variable 1) AtLeast (power (variable 0) 2) ∷ []) ≡ false
+  pub negated_elsewhere : defines_c free_pair (c_is_square ∷ equation (negated (variable 0)) AtLeast (numeral 0) ∷ []) ≡ false
   pub x_elsewhere : defines_c free_pair (c_is_square ∷ x_from_one ∷ []) ≡ true
   -- c.up = 2 and c.lo = 0
   pub bounded_above : defines_c (up_to 2 ∷ free ∷ []) (c_is_square ∷ []) ≡ false

@@ -10,12 +10,12 @@ use Rattle.emp_ast.specs.declared.model.Variable.{Variable}
 use Rattle.emp_ast.specs.declared.model.Model.{Model}
 use Rattle.emp_ast.specs.declared.annot.Block.TheVariants.{Agent, Vi}
 use Rattle.emp_ast.specs.declared.annot.Annot.{Annot}
-use Rattle.emp_ast.specs.Expression.{variable}
+use Rattle.emp_ast.specs.Expression.{variable, negated}
 use Rattle.emp_ast.specs.Parties.{block}
 use Rattle.emp_ast.specs.Rivals.{IsGiven, IsRival}
 use Rattle.emp_ast.specs.Solved.{IsSolved}
 use Rattle.emp_ast.specs.Equilibrium.{IsEquilibrium}
-use Rattle.emp_examples.specs.Small.{difference, product, quotient, numeral, equation, free, from, up_to, var, equ, model, equilibrium, whole_point}
+use Rattle.emp_examples.specs.Small.{sum, difference, product, quotient, numeral, equation, free, from, up_to, var, equ, model, equilibrium, whole_point}
 use Rattle.emp_examples.specs.Values.{line}
 use Rattle.emp_examples.specs.Parties.{free_pair, square, c_is_square, x_from_one, min_c}
 
@@ -79,6 +79,17 @@ idle = model (up_to 2 ∷ []) []
 abbrev pub idle_by : Annot
 idle_by = equilibrium (Vi (var 0 ∷ []) [] [] ∷ [])
 
+-- `vi f x` with f.. -x =n= 0
+abbrev pub falling : Model
+falling = model (free ∷ []) (equation (negated (variable 0)) Nothing (numeral 0) ∷ [])
+
+-- `vi f x g y` with f.. x =n= 0, g.. y + 1 =n= 0 and y.lo = 0
+abbrev pub paired : Model
+paired = model (free ∷ from 0 ∷ []) (equation (variable 0) Nothing (numeral 0) ∷ equation (sum (variable 1) (numeral 1)) Nothing (numeral 0) ∷ [])
+
+abbrev pub paired_by : Annot
+paired_by = equilibrium (Vi [] ((equ 0, var 0) ∷ (equ 1, var 1) ∷ []) [] ∷ [])
+
 pub record ExamplesOfInequalities : Type 0 where
   pub at_two : IsEquilibrium (sloped free) sloped_by (whole_point (pos 2 ∷ []))
   pub not_at_one : IsEquilibrium (sloped free) sloped_by (whole_point (pos 1 ∷ [])) → ⊥
@@ -92,6 +103,12 @@ pub record ExamplesOfInequalities : Type 0 where
   -- with function zero each point within the bounds is solved, and none outside
   pub idle_at_one : IsSolved idle idle_by 0 (whole_point (pos 1 ∷ []))
   pub idle_at_three : IsSolved idle idle_by 0 (whole_point (pos 3 ∷ [])) → ⊥
+  -- the function is taken at the point, and not at the rival: -x is 0 at 0, and against each step elsewhere
+  pub falling_at_zero : IsSolved falling sloped_by 0 (whole_point (pos 0 ∷ []))
+  pub falling_not_at_one : IsSolved falling sloped_by 0 (whole_point (pos 1 ∷ [])) → ⊥
+  -- the sum goes over all pairs
+  pub paired_at_zero : IsSolved paired paired_by 0 (whole_point (pos 0 ∷ pos 0 ∷ []))
+  pub paired_not_at_one : IsSolved paired paired_by 0 (whole_point (pos 0 ∷ pos 1 ∷ [])) → ⊥
 
 -- ---- agents: `min c x d` or `max c x d` with d.. c =e= x*x - 2*x, and with d.. c =e= 2*x - x*x
 abbrev pub bowl_equation : Equation

@@ -2,7 +2,7 @@
 -- d.. c =e= x*x, k.. x =g= 1, f.. y =l= 0 over the variables c, x, y, u.
 use Rattle.std.specs.Prelude.{◌≡◌, true, false, List, [], ◌∷◌}
 use Rattle.emp_ast.specs.declared.tree.EquId.{EquId}
-use Rattle.emp_ast.specs.declared.model.Relation.TheVariants.{AtLeast, AtMost}
+use Rattle.emp_ast.specs.declared.model.Relation.TheVariants.{AtLeast, AtMost, Nothing}
 use Rattle.emp_ast.specs.declared.model.Sense.TheVariants.{Min}
 use Rattle.emp_ast.specs.declared.model.Variable.{Variable}
 use Rattle.emp_ast.specs.declared.model.Model.{Model}
@@ -50,12 +50,15 @@ pub record ExamplesOfRules : Type 0 where
   pub goal_listed_twice : owned_twice (with_goal Min 0 (four free)) (bilevel (var 0 ∷ var 0 ∷ []) []) 0 ≡ true
   pub goal_in_block : owned_twice (with_goal Min 0 (four free)) (bilevel [] (agent ∷ [])) 0 ≡ true
   pub goal_without_leader : owned_twice (with_goal Min 0 (four free)) priced 0 ≡ false
+  -- u the dual variable of two equations
+  pub two_equations : owned_twice (four free) (with_duals ((var 3, equ 1) ∷ (var 3, equ 2) ∷ []) priced) 3 ≡ true
   -- k once; in two blocks; twice in one; a function and listed by another block; implicit and listed
   pub listed_once : equation_twice priced 1 ≡ false
   pub listed_by_two : equation_twice (equilibrium (agent ∷ idle (equ 1 ∷ []) ∷ [])) 1 ≡ false
   pub listed_twice : equation_twice (equilibrium (idle (equ 1 ∷ equ 1 ∷ []) ∷ [])) 1 ≡ true
   pub function_listed : equation_twice (equilibrium (agent ∷ Vi [] ((equ 1, var 2) ∷ []) [] ∷ [])) 1 ≡ true
   pub implicit_listed : equation_twice (with_implicits ((var 1, equ 1) ∷ []) priced) 1 ≡ true
+  pub two_implicits : equation_twice (with_implicits ((var 1, equ 2) ∷ (var 2, equ 2) ∷ []) (equilibrium (agent ∷ idle [] ∷ []))) 2 ≡ true
   -- f in no block, in an implicit pair, and in a bilevel file
   pub left : equation_left priced 2 ≡ true
   pub tied : equation_left (with_implicits ((var 1, equ 2) ∷ []) priced) 2 ≡ false
@@ -80,11 +83,17 @@ pub record ExamplesOfRules : Type 0 where
   pub high_implied : dual_bound (four (up_to 0)) (with_duals ((var 3, equ 2) ∷ []) priced) 3 ≡ false
   pub low_of_upper : dual_bound (four (from 0)) (with_duals ((var 3, equ 2) ∷ []) priced) 3 ≡ true
   pub low_of_equality : dual_bound (four (from 0)) (with_duals ((var 3, equ 0) ∷ []) priced) 3 ≡ true
+  -- of k.. x =n= 1: u.lo = 0 and u.up = 0 are implied
+  pub low_of_nothing : dual_bound (model (free ∷ free ∷ free ∷ from 0 ∷ []) (c_is_square ∷ equation (variable 1) Nothing (numeral 1) ∷ [])) priced 3 ≡ false
+  pub high_of_nothing : dual_bound (model (free ∷ free ∷ free ∷ up_to 0 ∷ []) (c_is_square ∷ equation (variable 1) Nothing (numeral 1) ∷ [])) priced 3 ≡ false
   -- an implicit x that a block lists; an implicit u that none lists; an implicit objective; an implicit paired y
   pub plain_use : implicit_use (four free) (with_implicits ((var 1, equ 2) ∷ []) (equilibrium (agent ∷ []))) 1 ≡ false
   pub not_listed : implicit_use (four free) (with_implicits ((var 3, equ 2) ∷ []) (equilibrium (agent ∷ []))) 3 ≡ true
   pub implicit_objective : implicit_use (four free) (with_implicits ((var 0, equ 2) ∷ []) (equilibrium (agent ∷ []))) 0 ≡ true
   pub implicit_paired : implicit_use (four free) (with_implicits ((var 2, equ 2) ∷ []) (equilibrium (Vi [] ((equ 1, var 2) ∷ []) [] ∷ []))) 2 ≡ true
+  -- an implicit x that is a leader's, or a dual variable
+  pub implicit_leader : implicit_use (four free) (with_implicits ((var 1, equ 2) ∷ []) (bilevel (var 1 ∷ []) (agent ∷ []))) 1 ≡ true
+  pub implicit_dual : implicit_use (four free) (with_implicits ((var 1, equ 2) ∷ []) (with_duals ((var 1, equ 1) ∷ []) (equilibrium (agent ∷ [])))) 1 ≡ true
   -- the equation of an implicit pair with `=L=` and with `=E=`
   pub no_tie : implicit_relation (four free) (with_implicits ((var 1, equ 2) ∷ []) (equilibrium (agent ∷ []))) 2 ≡ true
   pub tie : implicit_relation (four free) (with_implicits ((var 1, equ 0) ∷ []) (equilibrium (agent ∷ []))) 0 ≡ false

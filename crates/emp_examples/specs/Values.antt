@@ -33,12 +33,16 @@ pub record ExamplesOfValues : Type 0 where
   pub power_two : value (whole_point (pos 3 ∷ [])) (power (variable 0) 2) ≡ Some (ratio (pos 9) (pos 1))
   -- x =g= 2, x =l= 2 and x =e= 2
   pub meets_at_three : MeetsEquation (whole_point (pos 3 ∷ [])) (equation (variable 0) AtLeast (numeral 2))
+  pub at_most_meets_at_one : MeetsEquation (whole_point (pos 1 ∷ [])) (equation (variable 0) AtMost (numeral 2))
   pub misses_at_one : MeetsEquation (whole_point (pos 1 ∷ [])) (equation (variable 0) AtLeast (numeral 2)) → ⊥
   pub at_most_misses_at_three : MeetsEquation (whole_point (pos 3 ∷ [])) (equation (variable 0) AtMost (numeral 2)) → ⊥
   pub equal_misses_at_three : MeetsEquation (whole_point (pos 3 ∷ [])) (equation (variable 0) Equal (numeral 2)) → ⊥
   -- 1/0 =e= 1/0 is met by no point, and 1/0 =n= x by each
+  pub right_without_value : MeetsEquation (whole_point (pos 3 ∷ [])) (equation (variable 0) Equal no_number) → ⊥
   pub none_meets_nothing : MeetsEquation (whole_point (pos 3 ∷ [])) (equation no_number Equal no_number) → ⊥
   pub each_meets : MeetsEquation (whole_point (pos 3 ∷ [])) (equation no_number Nothing (variable 0))
+  -- -x =l= 0
+  pub opposite_meets : MeetsEquation (whole_point (pos 3 ∷ [])) (equation (negated (variable 0)) AtMost (numeral 0))
   -- x.up = 2 at 2, at 3 and at 5/2; x.lo = 3 at 3 and at 2
   pub bound_at_two : MeetsBounds (whole_point (pos 2 ∷ [])) 0 (up_to 2)
   pub bound_at_three : MeetsBounds (whole_point (pos 3 ∷ [])) 0 (up_to 2) → ⊥

@@ -70,6 +70,7 @@ HasOperands h (Div a b) = 2 ≤ h
 HasOperands h (Power a m) = 1 ≤ h
 
 -- ---- the whole list
+-- no node among the first n has a fault
 abbrev pub AllFree : List Node → ℕ → Type 0
 AllFree nodes n = (j : ℕ) → j < n → IsFree (expression_at nodes j)
 

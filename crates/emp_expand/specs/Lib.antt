@@ -1,7 +1,9 @@
+-- What a caller relies on
 pub mod Factors
 pub mod Stands
 pub mod Degrees
 pub mod Steps
 pub mod Joins
-pub mod Powers
 pub mod Expanding
+-- What only helps proofs
+pub mod Powers

@@ -5,6 +5,7 @@ use Rattle.emp_form.specs.Form.{Form, Monomial, coefficient}
 use Rattle.emp_expand.specs.Factors.{factor}
 use Rattle.emp_expand.specs.declared.coefficients.Coefficients.{Coefficients}
 
+-- its numbers are below 2^62
 abbrev pub IsSmall : Frac → Type 0
 IsSmall f = (unsigned_abs f.num < 2 ^ 62) × (unsigned_abs f.den < 2 ^ 62)
 

@@ -22,14 +22,13 @@ use Rattle.emp_problem.specs.declared.problem.Purpose.TheVariants.{Goal as Aim, 
 use Rattle.emp_problem.specs.declared.problem.BlockPart.{BlockPart}
 use Rattle.emp_problem.specs.declared.problem.LeaderPart.{LeaderPart}
 use Rattle.emp_problem.specs.declared.problem.AgentProblem.{AgentProblem}
-use Rattle.emp_problem.specs.Problem.{left_of, lin_row, quad_quadratic, game_rule, game_player, game_leader, game}
+use Rattle.emp_problem.specs.Problem.{left_of, lin_row, quad_quadratic, game_rule, game_player, game_leader, game, place_of, HasFunctions}
 use Rattle.emp_kkt.specs.declared.asked.Item.{Item}
 use Rattle.emp_kkt.specs.declared.asked.Item.TheVariants.{Low, High, Slope, Raised, Row, LeaderRow, Goal, Alone}
 use Rattle.emp_kkt.specs.declared.asked.Asked.{Asked}
 use Rattle.emp_kkt.specs.declared.asked.Asked.TheVariants.{ToBeZero, ToBeNonneg, Pair}
-use Rattle.emp_kkt.specs.Items.{shape, place_of, no_lin, no_part, part_at, own_at, rule_at, leader_goal, range_asked, coordinate_asked, own_asked, rule_asked, rules_asked, blocks_asked, leader_range_asked, leader_own_asked, leader_rule_asked, leader_rules_asked, leader_asked, asked, items_of, asked_kinds, asked_pairs}
+use Rattle.emp_kkt.specs.Items.{shape, no_lin, no_part, part_at, own_at, rule_at, leader_goal, range_asked, coordinate_asked, own_asked, rule_asked, rules_asked, blocks_asked, leader_range_asked, leader_own_asked, leader_rule_asked, leader_rules_asked, leader_asked, asked, items_of, asked_kinds, asked_pairs}
 use Rattle.emp_kkt.specs.Items.{leader_rules as rules_of_leader}
-use Rattle.emp_kkt.specs.Gives.{HasFunctions}
 use Rattle.emp_kkt.specs.Making.{own_places}
 use Rattle.emp_kkt.proofs.Shapes.{holder_same, range_place_same, multiplier_place_same}
 

@@ -25,10 +25,10 @@ use Rattle.emp_problem.specs.declared.problem.Purpose.{Purpose}
 use Rattle.emp_problem.specs.declared.problem.Purpose.TheVariants.{Goal as Aim, Flow}
 use Rattle.emp_problem.specs.declared.problem.LeaderPart.{LeaderPart}
 use Rattle.emp_problem.specs.declared.problem.AgentProblem.{AgentProblem}
-use Rattle.emp_problem.specs.Problem.{left_of, times_over, lin_row, game_rule, game, LinIsOver, BlockIsOver, LeaderIsOver, IsOver}
+use Rattle.emp_problem.specs.Problem.{left_of, times_over, lin_row, game_rule, game, LinIsOver, BlockIsOver, LeaderIsOver, IsOver, place_of}
 use Rattle.emp_kkt.specs.declared.asked.Item.{Item}
 use Rattle.emp_kkt.specs.declared.asked.Item.TheVariants.{Low, High, Slope, Raised, Row, LeaderRow, Goal, Alone}
-use Rattle.emp_kkt.specs.Items.{shape, place_of, no_lin, no_part, no_rule, part_at, own_at, rule_at, leader_rules, leader_goal}
+use Rattle.emp_kkt.specs.Items.{shape, no_lin, no_part, no_rule, part_at, own_at, rule_at, leader_rules, leader_goal}
 use Rattle.emp_kkt.specs.Cells.{unit_frac, signed_frac, lin_cell, RuleBy, RuleGives, ChargesGive, SlopeGives, RaisedBy, CellGives, slope_constant, constant_of}
 use Rattle.emp_kkt.specs.Gives.{IsFit, IsMadeOf, AreMadeOf}
 use Rattle.emp_quantities.specs.Over.{IsMultipleOver, AreMultiplesOver}

@@ -17,10 +17,10 @@ use Rattle.emp_problem.specs.declared.problem.Rule.{Rule}
 use Rattle.emp_problem.specs.declared.problem.BlockPart.{BlockPart}
 use Rattle.emp_problem.specs.declared.problem.AgentProblem.{AgentProblem}
 use Rattle.emp_problem.specs.Left.{place_in}
-use Rattle.emp_problem.specs.Problem.{left_of, game_player}
+use Rattle.emp_problem.specs.Problem.{left_of, game_player, place_of}
 use Rattle.emp_kkt.specs.declared.extras.Extra.{Extra}
 use Rattle.emp_kkt.specs.declared.extras.Extra.TheVariants.{Range, Multiplier}
-use Rattle.emp_kkt.specs.Items.{shape, place_of, base_of}
+use Rattle.emp_kkt.specs.Items.{shape, base_of}
 use Rattle.emp_kkt.specs.Making.{own_places, rules_at}
 use Rattle.emp_kkt.proofs.Putting.{put_end}
 

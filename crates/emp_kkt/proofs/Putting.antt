@@ -7,9 +7,10 @@ use Rattle.emp_game.specs.Game.{range_at}
 use Rattle.emp_problem.specs.declared.problem.Rule.{Rule}
 use Rattle.emp_problem.specs.declared.problem.BlockPart.{BlockPart}
 use Rattle.emp_problem.specs.declared.problem.AgentProblem.{AgentProblem}
+use Rattle.emp_problem.specs.Problem.{place_of}
 use Rattle.emp_kkt.specs.declared.asked.Item.{Item}
 use Rattle.emp_kkt.specs.declared.asked.Asked.{Asked}
-use Rattle.emp_kkt.specs.Items.{shape, place_of, coordinate_asked, own_asked, one_rule_asked, rules_asked, blocks_asked, leader_range_asked, leader_own_asked, leader_rule_asked, leader_rules_asked, items_one, items_of, kinds_one, asked_kinds, pairs_one, asked_pairs}
+use Rattle.emp_kkt.specs.Items.{shape, coordinate_asked, own_asked, one_rule_asked, rules_asked, blocks_asked, leader_range_asked, leader_own_asked, leader_rule_asked, leader_rules_asked, items_one, items_of, kinds_one, asked_kinds, pairs_one, asked_pairs}
 
 -- ---- a list that is put part by part: what stands so far, and then the parts of what is left
 pub put_step : {X Y : Type 0} (F : ℕ → List X → List Y) (part : List Y) (xs : List X) (at : ℕ) (x : X) (out new all : List Y) → at < length xs → x ≡ get_or xs at x → ((ys : List X) → F at (x ∷ ys) ≡ part ++ F (at + 1) ys) → new ≡ out ++ part → out ++ F at (drop at xs) ≡ all → new ++ F (at + 1) (drop (at + 1) xs) ≡ all

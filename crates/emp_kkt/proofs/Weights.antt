@@ -10,8 +10,8 @@ use Rattle.emp_split.specs.Games.{coordinates, dual_of}
 use Rattle.emp_split.specs.Numbers.{holder, place_by}
 use Rattle.emp_conditions.specs.Base.{Base, range, multiplier, base_slots, index_base, range_place, multiplier_place}
 use Rattle.emp_problem.specs.declared.problem.AgentProblem.{AgentProblem}
-use Rattle.emp_problem.specs.Problem.{game}
-use Rattle.emp_kkt.specs.Items.{shape, place_of}
+use Rattle.emp_problem.specs.Problem.{game, place_of}
+use Rattle.emp_kkt.specs.Items.{shape}
 use Rattle.emp_quantities.proofs.Weights.{extra_weight, weight, weight_high, multiplier_weight}
 
 pub weight_low : (n : ℤ) (c : ℕ) (bs : List Base) (i : ℕ) → i < c → weight n c bs i ≡ pos 1

@@ -20,13 +20,13 @@ use Rattle.emp_problem.specs.declared.problem.Purpose.TheVariants.{Goal as Aim, 
 use Rattle.emp_problem.specs.declared.problem.BlockPart.{BlockPart}
 use Rattle.emp_problem.specs.declared.problem.LeaderPart.{LeaderPart}
 use Rattle.emp_problem.specs.declared.problem.AgentProblem.{AgentProblem}
-use Rattle.emp_problem.specs.Problem.{left_of, game_player}
+use Rattle.emp_problem.specs.Problem.{left_of, game_player, place_of, HasFunctions, LeaderFits}
 use Rattle.emp_kkt.specs.declared.asked.Item.{Item}
 use Rattle.emp_kkt.specs.declared.asked.Item.TheVariants.{Low, High, Slope, Raised, Row, LeaderRow, Goal, Alone}
 use Rattle.emp_kkt.specs.declared.asked.Asked.{Asked}
 use Rattle.emp_kkt.specs.declared.asked.Asked.TheVariants.{ToBeZero, ToBeNonneg, Pair}
-use Rattle.emp_kkt.specs.Items.{shape, place_of, no_part, no_variable, part_at, own_at, leader_rules, range_asked, coordinate_asked, own_asked, rule_asked, one_rule_asked, rules_asked, blocks_asked, leader_range_asked, leader_own_asked, leader_rule_asked, leader_rules_asked, leader_asked, asked, items_of, items}
-use Rattle.emp_kkt.specs.Gives.{HasFunctions, LeaderFits, IsFit}
+use Rattle.emp_kkt.specs.Items.{shape, no_part, no_variable, part_at, own_at, leader_rules, range_asked, coordinate_asked, own_asked, rule_asked, one_rule_asked, rules_asked, blocks_asked, leader_range_asked, leader_own_asked, leader_rule_asked, leader_rules_asked, leader_asked, asked, items_of, items}
+use Rattle.emp_kkt.specs.Gives.{IsFit}
 use Rattle.emp_kkt.specs.Making.{own_places, PurposeFits, SlopeFits, ItemFits}
 use Rattle.emp_kkt.proofs.Meeting.{own_place}
 

@@ -1,7 +1,6 @@
 -- What `make` answers: each outcome with what is so exactly there.
 use Rattle.std.specs.Prelude.{◌≡◌, ◌⊎◌, ℕ, ◌+◌, ◌<◌, ◌≤◌, ℤ, List, [], ◌∷◌, ◌++◌, All, length, take, slice_index_or, Option, Some, None, Result, Ok, Err}
 use Rattle.emp_num.specs.declared.frac.Frac.{Frac}
-use Rattle.emp_ast.specs.declared.tree.VarId.{VarId}
 use Rattle.emp_rows.specs.declared.affine.Affine.{Affine}
 use Rattle.emp_rows.specs.declared.system.RowSystem.{RowSystem}
 use Rattle.emp_rows.specs.Primitive.{made}
@@ -9,28 +8,18 @@ use Rattle.emp_split.specs.Games.{coordinates}
 use Rattle.emp_conditions.specs.Base.{base_slots}
 use Rattle.emp_conditions.specs.Rows.{conditions}
 use Rattle.emp_quantities.specs.System.{rows_of}
-use Rattle.emp_problem.specs.declared.problem.Purpose.{Purpose}
-use Rattle.emp_problem.specs.declared.problem.Purpose.TheVariants.{Goal as Aim, Flow}
 use Rattle.emp_problem.specs.declared.problem.LeaderPart.{LeaderPart}
 use Rattle.emp_problem.specs.declared.problem.AgentProblem.{AgentProblem}
-use Rattle.emp_problem.specs.Problem.{game, IsOver}
+use Rattle.emp_problem.specs.Problem.{place_of, game, HasFunctions, LeaderFits, IsOver}
 use Rattle.emp_kkt.specs.declared.asked.Item.{Item}
 use Rattle.emp_kkt.specs.declared.asked.Item.TheVariants.{Goal}
 use Rattle.emp_kkt.specs.declared.make.KktFault.{KktFault}
 use Rattle.emp_kkt.specs.declared.make.KktFault.TheVariants.{TooLarge, WideRow, NoMemory}
-use Rattle.emp_kkt.specs.Items.{shape, place_of, items}
+use Rattle.emp_kkt.specs.Items.{shape, items}
 use Rattle.emp_kkt.specs.Cells.{AreCells, HasWideCell, constant_of}
 use Rattle.emp_quantities.specs.Over.{IsSystemOver}
 
 -- ---- what is asked of a problem
-abbrev pub HasFunctions : List VarId → Purpose → Type 0
-HasFunctions own (Aim q) = Unit {0}
-HasFunctions own (Flow fs) = length fs ≡ length own
-
-abbrev pub LeaderFits : AgentProblem → Option LeaderPart → Type 0
-LeaderFits pr None = Unit {0}
-LeaderFits pr (Some l) = All (λ v. place_of pr v < length pr.variables) l.own
-
 -- own and dual variables are among those that are left, and there is a function for each own variable
 pub record IsFit (pr : AgentProblem) : Type 0 where
   pub own : All (λ b. All (λ v. place_of pr v < length pr.variables) b.own) pr.blocks

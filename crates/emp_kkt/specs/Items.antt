@@ -19,8 +19,7 @@ use Rattle.emp_problem.specs.declared.problem.Purpose.TheVariants.{Flow}
 use Rattle.emp_problem.specs.declared.problem.BlockPart.{BlockPart}
 use Rattle.emp_problem.specs.declared.problem.LeaderPart.{LeaderPart}
 use Rattle.emp_problem.specs.declared.problem.AgentProblem.{AgentProblem}
-use Rattle.emp_problem.specs.Left.{place_in}
-use Rattle.emp_problem.specs.Problem.{left_of, game}
+use Rattle.emp_problem.specs.Problem.{place_of, game}
 use Rattle.emp_kkt.specs.declared.extras.Extra.{Extra}
 use Rattle.emp_kkt.specs.declared.extras.Extra.TheVariants.{Range, Multiplier}
 use Rattle.emp_kkt.specs.declared.asked.Item.{Item}
@@ -31,9 +30,6 @@ use Rattle.emp_kkt.specs.declared.asked.Asked.TheVariants.{ToBeZero, ToBeNonneg,
 -- the game over 1: where base variables stand is the same over every number
 abbrev pub shape : AgentProblem → Game
 shape pr = game (pos 1) pr
-
-abbrev pub place_of : AgentProblem → VarId → ℕ
-place_of pr v = place_in (left_of pr) v.at
 
 abbrev pub base_of : Extra → Base
 base_of (Range j k) = range j k

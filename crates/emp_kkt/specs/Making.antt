@@ -14,13 +14,13 @@ use Rattle.emp_problem.specs.declared.problem.Purpose.{Purpose}
 use Rattle.emp_problem.specs.declared.problem.Purpose.TheVariants.{Goal as Aim, Flow}
 use Rattle.emp_problem.specs.declared.problem.LeaderPart.{LeaderPart}
 use Rattle.emp_problem.specs.declared.problem.AgentProblem.{AgentProblem}
-use Rattle.emp_problem.specs.Problem.{left_of, game_rule}
+use Rattle.emp_problem.specs.Problem.{left_of, game_rule, place_of}
 use Rattle.emp_kkt.specs.declared.extras.Extra.{Extra}
 use Rattle.emp_kkt.specs.declared.asked.Item.{Item}
 use Rattle.emp_kkt.specs.declared.asked.Item.TheVariants.{Low, High, Slope, Raised, Row, LeaderRow, Goal, Alone}
 use Rattle.emp_kkt.specs.declared.make.KktFault.{KktFault}
 use Rattle.emp_kkt.specs.declared.make.KktFault.TheVariants.{TooLarge, WideRow, NoMemory}
-use Rattle.emp_kkt.specs.Items.{shape, place_of, base_of, part_at, leader_rules}
+use Rattle.emp_kkt.specs.Items.{shape, base_of, part_at, leader_rules}
 use Rattle.emp_kkt.specs.Cells.{AreCells, HasWideCell}
 use Rattle.emp_kkt.specs.Gives.{Fits, IsMadeOf, IsWideItem, AreMadeOf, IsGoalMade, IsFirstWide}
 

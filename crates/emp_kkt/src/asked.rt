@@ -1,6 +1,7 @@
 //! What is asked of the base variables.
 ghost use Rattle.std.specs.Prelude.{◌≡◌, ◌<◌, ◌≤◌, ◌+◌, ◌++◌, ◌∷◌, [], length, IfOk, OnOk};
-ghost use Rattle.emp_kkt.specs.Items.{range_asked, coordinate_asked, own_asked, rule_asked, one_rule_asked, rules_asked, blocks_asked, leader_range_asked, leader_own_asked, leader_rule_asked, leader_rules_asked, leader_asked, asked, items_one, items_of, kinds_one, asked_kinds, pairs_one, asked_pairs, place_of, own_at, rule_at};
+ghost use Rattle.emp_problem.specs.Problem.{place_of};
+ghost use Rattle.emp_kkt.specs.Items.{range_asked, coordinate_asked, own_asked, rule_asked, one_rule_asked, rules_asked, blocks_asked, leader_range_asked, leader_own_asked, leader_rule_asked, leader_rules_asked, leader_asked, asked, items_one, items_of, kinds_one, asked_kinds, pairs_one, asked_pairs, own_at, rule_at};
 ghost use Rattle.emp_ast.specs.declared.model.End.TheVariants.{At};
 ghost use Rattle.emp_kkt.specs.Making.{IsLayout};
 

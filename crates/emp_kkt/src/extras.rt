@@ -2,7 +2,8 @@
 ghost use Rattle.std.specs.Prelude.{◌≡◌, ◌<◌, ◌≤◌, ◌+◌, ◌++◌, map, length, IfOk, OnOk};
 ghost use Rattle.emp_split.specs.Numbers.{needs_own, player_slots};
 ghost use Rattle.emp_conditions.specs.Base.{two_ends, range_slots, base_from, base_slots, index_base, same_base, range_place, multiplier_place, multiplier};
-ghost use Rattle.emp_kkt.specs.Items.{shape, place_of, base_of, part_at};
+ghost use Rattle.emp_problem.specs.Problem.{place_of};
+ghost use Rattle.emp_kkt.specs.Items.{shape, base_of, part_at};
 ghost use Rattle.emp_kkt.specs.Making.{IsLayout, own_places, rules_at};
 
 use crate::places::{dual_place, holder_of, meet, place_of, range_of};

@@ -10,14 +10,15 @@ use Rattle.emp_num.specs.declared.frac.Frac.{Frac}
 use Rattle.emp_num.proofs.Commons.{common_point, stands_for_common}
 use Rattle.emp_num.proofs.Same.{same_value}
 use Rattle.emp_num.proofs.SamePoints.{cross_on, same_itself, same_back, stands_respects, stands_one_point, stands_one_list}
+use Rattle.emp_num.proofs.Standing.{stands_at}
 use Rattle.emp_ast.specs.declared.model.Model.{Model}
 use Rattle.emp_ast.specs.declared.annot.Annot.{Annot}
+use Rattle.emp_ast.specs.Rivals.{MeetsDefinitions}
 use Rattle.emp_ast.proofs.SameWords.{same_points_are_one}
 use Rattle.emp_form.specs.Calls.{Formula, HasWideCall}
 use Rattle.emp_poly.specs.Written.{entry}
 use Rattle.emp_poly.specs.Quads.{as_ratio}
 use Rattle.emp_problem.specs.Left.{left}
-use Rattle.emp_problem.specs.Class.{MeetsDefinitions}
 use Rattle.emp_problem.specs.declared.problem.AgentProblem.{AgentProblem}
 use Rattle.emp_subst.specs.Fill.{IsFold, IsFirstWide, IsFilled, IsFilling, spread}
 use Rattle.emp_meaning.specs.Ties.{left_at}
@@ -88,7 +89,7 @@ module _ (m : Model) (a : Annot) (pr : AgentProblem) (p : Point) (fs : List Frac
 -- ---- coordinates
 -- each entry of the list is the point's coordinate
 entry_stands : (fs : List Frac) (q : Point) (k : ℕ) → StandsFor fs q → k < length fs → SameRatio (as_ratio (entry fs k)) (coordinate q k)
-entry_stands fs q k h l = h.same k (whole 0) l
+entry_stands fs q k h l = stands_at fs q h k (whole 0) l
 
 same_definitions : (m : Model) (a : Annot) (p q : Point) → SamePoint p q → MeetsDefinitions m a p → MeetsDefinitions m a q
 same_definitions m a p q h d = record {

@@ -10,6 +10,7 @@ use Rattle.emp_num.specs.Point.{Point, StandsFor}
 use Rattle.emp_num.specs.SamePoint.{lowest}
 use Rattle.emp_num.specs.declared.frac.Frac.{Frac}
 use Rattle.emp_num.proofs.SamePoints.{lowest_is, fraction_is_lowest}
+use Rattle.emp_num.proofs.Standing.{stands_at, stands_from}
 use Rattle.emp_ast.specs.declared.tree.VarId.{VarId}
 use Rattle.emp_form.specs.Calls.{Formula, given, added, multiplied, Gives, HasWideCall}
 use Rattle.emp_form.proofs.Running.{gives_one, narrow_not_wide}
@@ -192,5 +193,5 @@ pub stood_by : (p : Point) → Listed (λ fs. StandsFor fs p)
 stood_by p = go (quotients_found p.nums p.den p.positive)
   where
     go : Listed (λ fs. AreQuotients fs p.nums p.den) → Listed (λ fs. StandsFor fs p)
-    go (inl t) = inl (t.0, record { count = t.1.count; same = t.1.each })
-    go (inr never) = inr (λ fs h. never fs (record { count = h.count; each = h.same }))
+    go (inl t) = inl (t.0, stands_from t.0 p t.1.count t.1.each)
+    go (inr never) = inr (λ fs h. never fs (record { count = h.count; each = stands_at fs p h }))

@@ -17,10 +17,10 @@ use Rattle.emp_ast.specs.declared.model.Model.{Model}
 use Rattle.emp_ast.specs.declared.annot.Annot.{Annot}
 use Rattle.emp_ast.specs.Meets.{MeetsEquation}
 use Rattle.emp_ast.specs.Parties.{Party, leader, block, objective, is_defined, is_defined_of, some_block_defines, EachDefinition}
-use Rattle.emp_ast.specs.Rivals.{Fits}
+use Rattle.emp_ast.specs.Rivals.{Fits, MeetsDefinitions}
 use Rattle.emp_left.specs.Left.{quadratic_left}
 use Rattle.emp_problem.specs.Left.{left, place, goal_form}
-use Rattle.emp_problem.specs.Class.{IsClassFile, MeetsDefinitions}
+use Rattle.emp_problem.specs.Class.{IsClassFile}
 use Rattle.emp_meaning.specs.Laws.{left_nums}
 use Rattle.emp_meaning.specs.Ties.{left_at, IsParty, signed_ratio}
 use Rattle.emp_meaning.proofs.Move.{left_cell, left_past}

@@ -6,6 +6,7 @@ use Rattle.emp_num.specs.declared.frac.Frac.{Frac}
 use Rattle.emp_num.specs.Point.{Point, StandsFor}
 use Rattle.emp_num.specs.SamePoint.{SamePoint}
 use Rattle.emp_num.proofs.SamePoints.{same_on}
+use Rattle.emp_num.proofs.Standing.{stands_at, stands_from}
 use Rattle.emp_rows.specs.declared.system.RowSystem.{RowSystem}
 use Rattle.emp_rows.specs.RowPoints.{Solves}
 use Rattle.emp_split.specs.Games.{Game, coordinates, IsConvexGame}
@@ -93,12 +94,10 @@ rows_lift pr s q h solves = lifts pr s h q solves
 -- ---- the way back
 -- the first fractions stand for the first coordinates
 pub front_stands : (n : ℕ) (fs : List Frac) (p : Point) → n ≤ length fs → StandsFor fs p → StandsFor (take n fs) (front n p)
-front_stands n fs p l h = record {
-  count = length-take-le n p.nums (let c = h.count in omega arith) ∙ sym (length-take-le n fs l);
-  same = λ k f below.
-      let short : length (take n fs) ≡ n = length-take-le n fs l in
-      let here : k < n = omega (arith, short, below) in
-      let one : get_or (take n fs) k f ≡ get_or fs k f = get_or-take n fs k f here in
-      let two : cell (take n p.nums) k ≡ cell p.nums k = get_or-take n p.nums k (pos 0) here in
-      subst₂ (λ (g : Frac) (z : ℤ). g.num *ℤ p.den ≡ z *ℤ g.den) (sym one) (sym two) (h.same k f (omega (arith, here, l)));
-}
+front_stands n fs p l h =
+    stands_from (take n fs) (front n p) (length-take-le n p.nums (let c = h.count in omega arith) ∙ sym (length-take-le n fs l)) (λ k f below.
+    let short : length (take n fs) ≡ n = length-take-le n fs l in
+    let here : k < n = omega (arith, short, below) in
+    let one : get_or (take n fs) k f ≡ get_or fs k f = get_or-take n fs k f here in
+    let two : cell (take n p.nums) k ≡ cell p.nums k = get_or-take n p.nums k (pos 0) here in
+    subst₂ (λ (g : Frac) (z : ℤ). g.num *ℤ p.den ≡ z *ℤ g.den) (sym one) (sym two) (stands_at fs p h k f (omega (arith, here, l))))

@@ -1,4 +1,7 @@
+-- What a caller relies on
 pub mod Least
-pub mod Rows
 pub mod Systems
+-- Laws
 pub mod Examples
+-- What only helps proofs
+pub mod Rows

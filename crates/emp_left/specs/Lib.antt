@@ -1,1 +1,2 @@
+-- What a caller relies on
 pub mod Left

@@ -1,3 +1,4 @@
+-- What a caller relies on
 pub mod Markets
 pub mod Making
 -- Laws

@@ -1,6 +1,6 @@
--- What `make` answers
+-- What a caller relies on
 pub mod Makes
--- What is so of its answers
+-- Laws
 pub mod Laws
 -- What only helps proofs
 pub mod Making

@@ -1,2 +1,2 @@
--- What is so of generated markets
+-- Laws
 pub mod Laws

@@ -5,7 +5,7 @@ use Rattle.emp_num.specs.Ratio.{ratio}
 use Rattle.emp_num.specs.Point.{Point}
 use Rattle.emp_ast.specs.declared.model.Model.{Model}
 use Rattle.emp_ast.specs.declared.annot.Annot.{Annot}
-use Rattle.emp_ast.specs.Rivals.{Fits}
+use Rattle.emp_ast.specs.Rivals.{Fits, MeetsDefinitions}
 use Rattle.emp_ast.specs.Solved.{IsSolved}
 use Rattle.emp_ast.specs.Equilibrium.{IsEquilibrium}
 use Rattle.emp_ast.specs.Bilevel.{IsBetterForLeader}
@@ -13,7 +13,7 @@ use Rattle.emp_game.specs.Solved as Play
 use Rattle.emp_split.specs.Games.{Game, coordinates, EachPlayer}
 use Rattle.emp_split.specs.Meaning.{LeaderObeys, IsAdmissible, IsBetter}
 use Rattle.emp_problem.specs.GameOf.{IsGameOf}
-use Rattle.emp_problem.specs.Class.{IsClassFile, SolvesBy, SolvesFile, MeetsDefinitions}
+use Rattle.emp_problem.specs.Class.{IsClassFile, SolvesBy, SolvesFile}
 use Rattle.emp_meaning.specs.Laws.{left_nums, GameSolvesFile, FileSolvesGame, OrdersAgree, CoordinatesFill, GamesAreWellMade}
 use Rattle.emp_meaning.proofs.Places.{places}
 use Rattle.emp_meaning.proofs.Owners.{player_owners}

@@ -35,8 +35,9 @@ use Rattle.emp_game.specs.Game.{Row, Player, Ranges}
 use Rattle.emp_game.specs.Solved.{value_at, flow_row}
 use Rattle.emp_owner.proofs.Lists.{vi_owns, vi_functions}
 use Rattle.emp_problem.specs.Left.{left, place, equation_form, block_flow}
+use Rattle.emp_owner.specs.Rules.{is_function}
 use Rattle.emp_problem.specs.GameOf.{IsRowOf, AreFlowsOf}
-use Rattle.emp_problem.specs.Class.{some_block_constrains, is_function, is_affine}
+use Rattle.emp_problem.specs.Class.{some_block_constrains, is_affine}
 use Rattle.emp_meaning.specs.Laws.{left_nums}
 use Rattle.emp_meaning.proofs.TieLists.{filter_all}
 use Rattle.emp_meaning.proofs.Move.{IsTied, block_fits}

@@ -41,7 +41,7 @@ use Rattle.emp_ast.specs.Solved.{sides_gap, gap_by, gap, flow}
 use Rattle.emp_ast.specs.Multipliers.{IsMultiplier, AreComplementary, purpose, charge, lagrangian}
 use Rattle.emp_ast.specs.Multipliers as File
 use Rattle.emp_ast.specs.Convex.{counted, counted_by}
-use Rattle.emp_ast.proofs.Fractions.{fraction_on, fraction_back, fraction_plus, fraction_minus, fraction_times, sign_from, sign_to, sign_none, at_most_same}
+use Rattle.emp_ast.proofs.Fractions.{fraction_on, fraction_back, fraction_plus, fraction_minus, fraction_times, sign_from, sign_to, sign_none, at_most_same, from_nought, to_nought}
 use Rattle.emp_ast.proofs.SameValues.{joined_both, if_both}
 use Rattle.emp_ast.proofs.SameWords.{same_deviation, same_multipliers}
 use Rattle.emp_form.specs.Form.{form_of}
@@ -88,14 +88,14 @@ none_over a d h e = record { left = omega (arith, ints); right = h; same = by_ri
 -- ---- signs
 sign_in : (rel : Relation) (u : Ratio) (z d : ℤ) → pos 0 <ℤ u.bottom → pos 0 <ℤ d → SameRatio u (ratio z d) → File.HasSign rel u → Play.HasSign rel z
 sign_in Equal u z d h p s k = tt
-sign_in AtLeast u z d h p s k = sign_from u.top u.bottom z d h p s k
-sign_in AtMost u z d h p s k = sign_to u.top u.bottom z d h p s k
+sign_in AtLeast u z d h p s k = sign_from u.top u.bottom z d h p s ((from_nought u).0 k)
+sign_in AtMost u z d h p s k = sign_to u.top u.bottom z d h p s ((to_nought u).0 k)
 sign_in Nothing u z d h p s k = sign_none u.top u.bottom z d h p s k
 
 sign_out : (rel : Relation) (z d : ℤ) → Play.HasSign rel z → File.HasSign rel (ratio z d)
 sign_out Equal z d k = tt
-sign_out AtLeast z d k = k
-sign_out AtMost z d k = k
+sign_out AtLeast z d k = (from_nought (ratio z d)).1 k
+sign_out AtMost z d k = (to_nought (ratio z d)).1 k
 sign_out Nothing z d k = k
 
 slack_in : (o : Option Ratio) (v u : Ratio) (top bottom z d : ℤ) → o ≡ Some v → pos 0 <ℤ v.bottom → pos 0 <ℤ bottom → SameRatio v (ratio top bottom) → pos 0 <ℤ u.bottom → pos 0 <ℤ d → SameRatio u (ratio z d) → AreComplementary o u → (top ≡ pos 0) ⊎ (z ≡ pos 0)

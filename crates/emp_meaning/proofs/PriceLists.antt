@@ -13,7 +13,8 @@ use Rattle.emp_ast.specs.declared.annot.Block.TheVariants.{Agent, Vi}
 use Rattle.emp_ast.specs.declared.annot.Annot.{Annot}
 use Rattle.emp_ast.specs.Parties.{Party, leader, block, names_variable, names_equation, block_variables, listed_equations, functions, all_equations, equations_by, equations, some_block_has, defines, block_functions, is_constraint, constraints}
 use Rattle.emp_split.proofs.Each.{or_first, or_second}
-use Rattle.emp_problem.specs.Class.{BlockFits, some_block_constrains, is_function, is_affine, IsClassFile}
+use Rattle.emp_problem.specs.Class.{BlockFits, some_block_constrains, is_affine, IsClassFile}
+use Rattle.emp_owner.specs.Rules.{is_function}
 use Rattle.emp_meaning.specs.Ties.{IsParty}
 use Rattle.emp_meaning.proofs.Move.{block_fits}
 use Rattle.emp_meaning.proofs.TieLists.{any_at}

@@ -29,7 +29,7 @@ use Rattle.emp_ast.specs.Rivals.{Fits, IsRival, IsFeasible}
 use Rattle.emp_ast.specs.Solved.{IsSmaller, IsBetter, IsAtLeastZero, step_to, NoRivalIsBetter, IsSolved}
 use Rattle.emp_ast.specs.Solved.{flow as flow_of}
 use Rattle.emp_ast.specs.SameLaws.{SameFraction}
-use Rattle.emp_ast.proofs.Fractions.{fraction_back, fraction_on, smaller_same, sign_from}
+use Rattle.emp_ast.proofs.Fractions.{fraction_back, fraction_on, smaller_same, sign_from, from_nought}
 use Rattle.emp_game.specs.Game.{Row, Purpose, goal, flow, Player, Ranges}
 use Rattle.emp_game.specs.Solved.{Obeys, flow_row, purpose_at}
 use Rattle.emp_game.specs.Solved as Play
@@ -221,7 +221,7 @@ module _ (n : ℤ) (m : Model) (a : Annot) (ranges : Ranges) (k : ℕ) (b : Bloc
       let r = f.point in
       let row = flow_row pl.own fs p.den (left_nums m a p) in
       let sum = flow_step p r zeros pairs equs fs at of fits in
-      let ahead = subst (λ o. IsAtLeastZero o) sum.is (best r f.rival) in
+      let ahead = (from_nought sum.value).0 (subst (λ o. IsAtLeastZero o) sum.is (best r f.rival)) in
       let up = sign_from sum.value.top sum.value.bottom (dot row (steps p r)) (n *ℤ p.den *ℤ (r.den *ℤ p.den)) sum.same.left sum.same.right sum.same.same ahead in
       let same = scaled_same f.times e ys r.den (left_nums m a r) f.den f.nums in
       least_from row p.den (left_nums m a p) e ys p.positive above
@@ -234,7 +234,7 @@ module _ (n : ℤ) (m : Model) (a : Annot) (ranges : Ranges) (k : ℕ) (b : Bloc
       let least = least_to row p.den (left_nums m a p) r.den (left_nums m a r) p.positive r.positive (best r.den (left_nums m a r) r.positive (rival_down p r fits rival)) in
       let up = at_ahead row p.den (left_nums m a p) r.den (left_nums m a r) least in
       subst (λ o. IsAtLeastZero o) (sym sum.is)
-      (sign_from (dot row (steps p r)) (n *ℤ p.den *ℤ (r.den *ℤ p.den)) sum.value.top sum.value.bottom sum.same.right sum.same.left (sym sum.same.same) up)
+      ((from_nought sum.value).1 (sign_from (dot row (steps p r)) (n *ℤ p.den *ℤ (r.den *ℤ p.den)) sum.value.top sum.value.bottom sum.same.right sum.same.left (sym sum.same.same) up))
 
   -- ---- each block
   best_down : (c : Block) (f : Purpose) (p : Point) → slice_get a.blocks k ≡ Some c → IsPurposeOf n m a k c f → Fits m p → IsFeasible m a (block k) p → NoRivalIsBetter m a k (Some c) p → (e : ℤ) (ys : List ℤ) → pos 0 <ℤ e → Play.IsRival ranges pl p.den (left_nums m a p) e ys → IsAtMost (purpose_at f pl.own p.den (left_nums m a p)) p.den (left_nums m a p) e ys

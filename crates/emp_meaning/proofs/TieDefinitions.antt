@@ -27,7 +27,8 @@ use Rattle.emp_agents.specs.Given.{without, times_form, HasTerm, difference, sol
 use Rattle.emp_agents.proofs.Terms.{no_linear, absent}
 use Rattle.emp_agents.proofs.Given.{objective_stands_once, given_form_is}
 use Rattle.emp_problem.specs.Left.{left, signed}
-use Rattle.emp_problem.specs.Class.{some_block_constrains, is_function, is_affine, IsClassFile}
+use Rattle.emp_owner.specs.Rules.{is_function}
+use Rattle.emp_problem.specs.Class.{some_block_constrains, is_affine, IsClassFile}
 use Rattle.emp_meaning.specs.Ties.{IsParty}
 use Rattle.emp_meaning.proofs.TieLists.{any_at, any_source, count_two}
 use Rattle.emp_meaning.proofs.Places.{left_named, some_defines, defined_objective, agent_at, own_defined}

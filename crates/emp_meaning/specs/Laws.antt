@@ -4,7 +4,7 @@ use Rattle.emp_algebra.specs.Vector.{scale}
 use Rattle.emp_num.specs.Point.{Point}
 use Rattle.emp_ast.specs.declared.model.Model.{Model}
 use Rattle.emp_ast.specs.declared.annot.Annot.{Annot}
-use Rattle.emp_ast.specs.Rivals.{Fits}
+use Rattle.emp_ast.specs.Rivals.{Fits, MeetsDefinitions}
 use Rattle.emp_ast.specs.Bilevel.{IsBetterForLeader}
 use Rattle.emp_left.specs.Left.{selected}
 use Rattle.emp_split.specs.Games.{Game, coordinates, IsGame}
@@ -13,7 +13,7 @@ use Rattle.emp_conditions.specs.Laws.{HasOneRule, IsLeader}
 use Rattle.emp_quantities.specs.Laws.{GoalIsShort}
 use Rattle.emp_problem.specs.Left.{left}
 use Rattle.emp_problem.specs.GameOf.{IsGameOf}
-use Rattle.emp_problem.specs.Class.{IsClassFile, SolvesFile, MeetsDefinitions}
+use Rattle.emp_problem.specs.Class.{IsClassFile, SolvesFile}
 
 -- the coordinates of the variables that are left
 abbrev pub left_nums : Model → Annot → Point → List ℤ

@@ -1,4 +1,4 @@
--- What the layers above cite
+-- Laws
 pub mod Laws
 -- What only helps proofs
 pub mod Ties

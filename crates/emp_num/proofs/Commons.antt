@@ -7,6 +7,7 @@ use Rattle.emp_algebra.proofs.Ring.{var, ◌⊗◌, by_ring}
 use Rattle.emp_algebra.proofs.Vectors.{length-scale, cell-scale}
 use Rattle.emp_num.specs.Point.{Point, StandsFor}
 use Rattle.emp_num.specs.declared.frac.Frac.{Frac}
+use Rattle.emp_num.proofs.Standing.{stands_from}
 
 abbrev pub common_den : List Frac → ℤ
 common_den [] = pos 1
@@ -27,7 +28,7 @@ common_count : (fs : List Frac) → length (common_nums fs) ≡ length fs
 common_count [] = refl
 common_count (f ∷ fs) = ap suc (length-scale f.den (common_nums fs) ∙ common_count fs)
 
-common_same : (fs : List Frac) (k : ℕ) (d : Frac) → k < length fs → (get_or fs k d).num *ℤ common_den fs ≡ cell (common_nums fs) k *ℤ (get_or fs k d).den
+pub common_same : (fs : List Frac) (k : ℕ) (d : Frac) → k < length fs → (get_or fs k d).num *ℤ common_den fs ≡ cell (common_nums fs) k *ℤ (get_or fs k d).den
 common_same [] k d h = absurd (omega arith)
 common_same (f ∷ fs) zero d h = by_ring (f.num ∷ f.den ∷ common_den fs ∷ []) (var 0 ⊗ (var 1 ⊗ var 2)) (var 0 ⊗ var 2 ⊗ var 1) refl
 common_same (f ∷ fs) (suc k) d h =
@@ -37,4 +38,4 @@ common_same (f ∷ fs) (suc k) d h =
     ∙ (by_ring (f.den ∷ cell (common_nums fs) k ∷ g.den ∷ []) (var 0 ⊗ (var 1 ⊗ var 2)) (var 0 ⊗ var 1 ⊗ var 2) refl ∙ ap (λ z. z *ℤ g.den) (sym (cell-scale f.den (common_nums fs) k))))
 
 pub stands_for_common : (fs : List Frac) → StandsFor fs (common_point fs)
-stands_for_common fs = record { count = common_count fs; same = common_same fs }
+stands_for_common fs = stands_from fs (common_point fs) (common_count fs) (common_same fs)

@@ -13,6 +13,7 @@ use Rattle.emp_num.specs.Point.{Point, coordinate, StandsFor}
 use Rattle.emp_num.specs.SamePoint.{SamePoint, lowest, lowest_coordinates, ratios}
 use Rattle.emp_num.specs.declared.frac.Frac.{Frac}
 use Rattle.emp_num.proofs.Same.{same_value}
+use Rattle.emp_num.proofs.Standing.{stands_at}
 use Rattle.emp_num.proofs.Lowest.{same_lowest}
 use Rattle.emp_num.proofs.Divisors.{IsGcd-gcd_of}
 use Rattle.emp_num.proofs.Gcds.{quot_exact, divisor_pos, coprime_from_gcd, positive_from_product, cross}
@@ -43,7 +44,7 @@ same_on p q r h k = record {
 pub stands_respects : (fs : List Frac) (p q : Point) → StandsFor fs p → SamePoint p q → StandsFor fs q
 stands_respects fs p q s h = record {
   count = sym h.count ∙ s.count;
-  same = λ k f l. cross_on (get_or fs k f).num (get_or fs k f).den (cell p.nums k) p.den (cell q.nums k) q.den p.positive (s.same k f l) (h.same k);
+  same = λ k f at. cross_on f.num f.den (cell p.nums k) p.den (cell q.nums k) q.den p.positive (s.same k f at) (h.same k);
 }
 
 -- past the end both coordinates are 0
@@ -64,7 +65,7 @@ stands_one_point fs p q s t = record { count = s.count ∙ sym t.count; same = �
     go : (k : ℕ) → (k < length fs) ⊎ (length fs ≤ k) → SameRatio (coordinate p k) (coordinate q k)
     go k (inl h) =
         let f = some_fraction fs k h in
-        cross_on (cell p.nums k) p.den (get_or fs k f).num (get_or fs k f).den (cell q.nums k) q.den (get_or fs k f).positive (sym (s.same k f h)) (t.same k f h)
+        cross_on (cell p.nums k) p.den (get_or fs k f).num (get_or fs k f).den (cell q.nums k) q.den (get_or fs k f).positive (sym (stands_at fs p s k f h)) (stands_at fs q t k f h)
     go k (inr h) = past_end p.nums q.nums p.den q.den k (omega (arith, s.count)) (omega (arith, t.count))
 
 -- lists of the same length with the same elements
@@ -79,8 +80,8 @@ stands_one_list fs gs p q s t h =
     same_list fs gs (sym s.count ∙ (h.count ∙ t.count))
     (λ k f l. same_value (get_or fs k f) (get_or gs k f)
     (cross_on (get_or fs k f).num (get_or fs k f).den (cell q.nums k) q.den (get_or gs k f).num (get_or gs k f).den q.positive
-    ((stands_respects fs p q s h).same k f l)
-    (sym (t.same k f (omega (arith, s.count, t.count, h.count))))))
+    (stands_at fs q (stands_respects fs p q s h) k f l)
+    (sym (stands_at gs q t k f (omega (arith, s.count, t.count, h.count))))))
 
 -- ---- lowest terms
 pub record IsLowest (n d : ℤ) (r : Ratio) : Type 0 where
@@ -115,7 +116,7 @@ lowest_list (f ∷ fs) d (x ∷ xs) p e h =
     ap₂ (λ (r : Ratio) (rs : List Ratio). r ∷ rs) (fraction_is_lowest f x d p (h 0 f (omega arith))) (lowest_list fs d xs p (omega arith) (λ k g l. h (suc k) g (omega arith)))
 
 pub lowest_are_fractions : (fs : List Frac) (p : Point) → StandsFor fs p → ratios fs ≡ lowest_coordinates p
-lowest_are_fractions fs p s = lowest_list fs p.den p.nums p.positive s.count s.same
+lowest_are_fractions fs p s = lowest_list fs p.den p.nums p.positive s.count (stands_at fs p s)
 
 -- they are the same for the same point
 lowest_same_ratio : (n d m e : ℤ) → pos 0 <ℤ d → pos 0 <ℤ e → n *ℤ e ≡ m *ℤ d → lowest n d ≡ lowest m e

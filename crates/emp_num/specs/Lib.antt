@@ -1,3 +1,4 @@
+-- What a caller relies on
 pub mod Exact
 pub mod FracSpec
 pub mod Gcd
@@ -5,6 +6,7 @@ pub mod Ratio
 pub mod Point
 pub mod Whole
 pub mod Orders
-pub mod FracLaws
 pub mod Opposite
 pub mod SamePoint
+-- Laws
+pub mod FracLaws

@@ -1,7 +1,7 @@
 -- A point: one whole number per variable over one whole number above 0.
-use Rattle.std.specs.Prelude.{◌≡◌, ℕ, ◌<◌, ℤ, pos, ◌*ℤ◌, ◌<ℤ◌, List, length, slice_index_or}
+use Rattle.std.specs.Prelude.{◌≡◌, ℕ, ℤ, pos, ◌<ℤ◌, List, length, slice_get, Some}
 use Rattle.emp_algebra.specs.Vector.{cell}
-use Rattle.emp_num.specs.Ratio.{Ratio, ratio}
+use Rattle.emp_num.specs.Ratio.{Ratio, ratio, SameRatio}
 use Rattle.emp_num.specs.declared.frac.Frac.{Frac}
 
 -- the coordinate of variable k is `nums` at k over `den`; nothing bounds the numbers
@@ -13,7 +13,7 @@ pub record Point : Type 0 where
 abbrev pub coordinate : Point → ℕ → Ratio
 coordinate p k = ratio (cell p.nums k) p.den
 
--- the list of fractions stands for the point: it has the same coordinates
+-- the list of fractions stands for the point: it has one for each coordinate, and each is the coordinate at its place
 pub record StandsFor (fracs : List Frac) (p : Point) : Type 0 where
   pub count : length p.nums ≡ length fracs
-  pub same : (k : ℕ) (f : Frac) → k < length fracs → (slice_index_or fracs k f).num *ℤ p.den ≡ cell p.nums k *ℤ (slice_index_or fracs k f).den
+  pub same : (k : ℕ) (f : Frac) → slice_get fracs k ≡ Some f → SameRatio (ratio f.num f.den) (coordinate p k)

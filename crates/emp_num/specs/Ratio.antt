@@ -8,6 +8,9 @@ pub record Ratio : Type 0 where
 abbrev pub ratio : ℤ → ℤ → Ratio
 ratio n d = record { top = n; bottom = d }
 
+abbrev pub nought : Ratio
+nought = ratio (pos 0) (pos 1)
+
 abbrev pub negated : Ratio → Ratio
 negated p = ratio (neg_ℤ p.top) p.bottom
 
@@ -34,6 +37,7 @@ abbrev pub power : Ratio → ℕ → Ratio
 power p zero = ratio (pos 1) (pos 1)
 power p (suc n) = times p (power p n)
 
+-- by the cross products, which compare quotients with lower numbers above 0
 abbrev pub SameRatio : Ratio → Ratio → Type 0
 SameRatio p q = p.top *ℤ q.bottom ≡ q.top *ℤ p.bottom
 

@@ -1,3 +1,5 @@
+-- What a caller relies on
 pub mod Numeral
-pub mod NumeralText
 pub mod FracText
+-- Laws
+pub mod NumeralText

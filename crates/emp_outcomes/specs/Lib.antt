@@ -1,4 +1,4 @@
--- What is answered
+-- What a caller relies on
 pub mod Outcomes
 -- What only helps proofs
 pub mod Steps

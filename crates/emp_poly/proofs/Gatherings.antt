@@ -11,12 +11,12 @@ use Rattle.emp_num.specs.declared.frac.Frac.{Frac}
 use Rattle.emp_form.specs.Form.{Form, Monomial, coefficient}
 use Rattle.emp_form.specs.Wide.{Fractions}
 use Rattle.emp_expand.specs.Factors.{monomial_cmp, factor, or_zero, fractions, products_of, In}
-use Rattle.emp_expand.specs.Stands.{StandsAt, Stands}
+use Rattle.emp_expand.specs.Stands.{StandsAt, Stands, IsSmall}
 use Rattle.emp_expand.specs.declared.coefficients.Coefficients.{Coefficients}
 use Rattle.emp_expand.proofs.Filling.{unlisted, listed_back}
 use Rattle.emp_expand.proofs.Standing.{has_fractions, fraction_small}
 use Rattle.emp_poly.specs.Terms.{is_linear, is_square}
-use Rattle.emp_poly.specs.Quads.{linear_at, square_at, HasForm, IsSmall, IsSmallQuad}
+use Rattle.emp_poly.specs.Quads.{linear_at, square_at, HasForm, IsSmallQuad}
 use Rattle.emp_poly.specs.Parts.{IsKey, variable, linear_more, linear_part, square_more, square_part, Takes, Collected, StandsLoosely, Collects}
 use Rattle.emp_poly.specs.declared.quad.Quad.{Quad}
 use Rattle.emp_poly.specs.declared.collect.Parts.{Parts}

@@ -14,9 +14,9 @@ use Rattle.emp_form.specs.Calls.{given, subtracted, Gives}
 use Rattle.emp_form.proofs.Formulas.{formula_is}
 use Rattle.emp_expand.specs.Factors.{factor, or_zero, fractions}
 use Rattle.emp_expand.specs.declared.coefficients.Coefficients.{Coefficients}
+use Rattle.emp_expand.specs.Stands.{IsSmall}
 use Rattle.emp_expand.proofs.Standing.{subtracted_zero}
 use Rattle.emp_expand.proofs.Moving.{Moved}
-use Rattle.emp_poly.specs.Quads.{IsSmall}
 use Rattle.emp_poly.specs.Difference.{IsDifference}
 use Rattle.emp_poly.specs.Parts.{StandsLoosely, Collects}
 use Rattle.emp_poly.specs.Spread.{AreCoefficients, IsLess, LessAt, TakesAway}

@@ -14,8 +14,9 @@ use Rattle.emp_form.specs.Form.{Form, Monomial, coefficient}
 use Rattle.emp_form.proofs.Formulas.{is_zero}
 use Rattle.emp_expand.specs.Factors.{factor, or_zero, fractions}
 use Rattle.emp_expand.specs.declared.coefficients.Coefficients.{Coefficients}
+use Rattle.emp_expand.specs.Stands.{IsSmall}
 use Rattle.emp_poly.specs.Terms.{is_not_zero, is_linear_from, is_square_from}
-use Rattle.emp_poly.specs.Quads.{linear_at, square_at, HasForm, IsSmall, IsSmallQuad}
+use Rattle.emp_poly.specs.Quads.{linear_at, square_at, HasForm, IsSmallQuad}
 use Rattle.emp_poly.specs.Parts.{StandsLoosely}
 use Rattle.emp_poly.specs.Spread.{IsAt, linear_or, square_or, PutsConstant, PutsLinear, PutsSquare, AreCoefficients, AreSmall}
 use Rattle.emp_poly.specs.declared.quad.Quad.{Quad}

@@ -11,6 +11,7 @@ use Rattle.emp_num.specs.Point.{Point, coordinate, StandsFor}
 use Rattle.emp_num.specs.Whole.{whole}
 use Rattle.emp_num.specs.declared.exact.Wide.{Wide}
 use Rattle.emp_num.specs.declared.frac.Frac.{Frac}
+use Rattle.emp_num.proofs.Standing.{stands_at}
 use Rattle.emp_ast.specs.declared.tree.VarId.{VarId}
 use Rattle.emp_form.specs.Calls.{Formula, given, added, multiplied, Gives, HasWideCall, Runs}
 use Rattle.emp_form.proofs.Running.{runs_given, runs_added, runs_multiplied}
@@ -154,7 +155,7 @@ means_same s p q b e h r c = ratio_trans (as_ratio r) p q b (h r c) e
 
 module _ (xs : List Frac) (p : Point) (h : StandsFor xs p) where
   entry_means : (k : ℕ) → k < length xs → SameRatio (as_ratio (entry xs k)) (coordinate p k)
-  entry_means k l = h.same k (whole 0) l
+  entry_means k l = stands_at xs p h k (whole 0) l
 
   term_means : (c : Frac) (k : ℕ) → k < length xs → Means (multiplied (given c) (given (entry xs k))) (times (as_ratio c) (coordinate p k))
   term_means c k l = means_multiplied (given c) (given (entry xs k)) (as_ratio c) (coordinate p k) (means_given c (as_ratio c) refl) (means_given (entry xs k) (coordinate p k) (entry_means k l))

@@ -1,5 +1,5 @@
 -- The coefficients and the value of a polynomial.
-use Rattle.std.specs.Prelude.{ℕ, ◌≤◌, ◌<◌, ◌^◌, pos, ◌<ℤ◌, ◌&&◌, cond, nat_eq, List, [], ◌∷◌, unsigned_abs}
+use Rattle.std.specs.Prelude.{ℕ, ◌≤◌, pos, ◌<ℤ◌, ◌&&◌, cond, nat_eq, List, [], ◌∷◌}
 use Rattle.emp_num.specs.FracSpec.{IsQuotient}
 use Rattle.emp_num.specs.Ratio.{Ratio, ratio, plus, times}
 use Rattle.emp_num.specs.Point.{Point, coordinate}
@@ -7,6 +7,7 @@ use Rattle.emp_num.specs.Whole.{whole}
 use Rattle.emp_num.specs.declared.frac.Frac.{Frac}
 use Rattle.emp_ast.specs.declared.tree.VarId.{VarId}
 use Rattle.emp_form.specs.Form.{Form}
+use Rattle.emp_expand.specs.Stands.{IsSmall}
 use Rattle.emp_poly.specs.declared.quad.Quad.{Quad}
 use Rattle.emp_poly.specs.declared.quad.Lin.{Lin}
 
@@ -48,9 +49,6 @@ pub record HasForm (q : Quad) (f : Form) : Type 0 where
   pub square : (i j : ℕ) → i ≤ j → IsQuotient (square_at q.square i j) (f.square i j) f.den
 
 -- ---- coefficients with numbers below 2^62
-abbrev pub IsSmall : Frac → Type 0
-IsSmall f = (unsigned_abs f.num < 2 ^ 62) × (unsigned_abs f.den < 2 ^ 62)
-
 pub record IsSmallQuad (q : Quad) : Type 0 where
   pub constant : IsSmall q.constant
   pub linear : (i : ℕ) → IsSmall (linear_at q.linear i)

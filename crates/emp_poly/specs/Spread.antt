@@ -7,7 +7,7 @@ use Rattle.emp_ast.specs.declared.tree.VarId.{VarId}
 use Rattle.emp_form.specs.Form.{Monomial}
 use Rattle.emp_expand.specs.Factors.{factor, or_zero, fractions}
 use Rattle.emp_expand.specs.declared.coefficients.Coefficients.{Coefficients}
-use Rattle.emp_poly.specs.Quads.{IsSmall}
+use Rattle.emp_expand.specs.Stands.{IsSmall}
 use Rattle.emp_poly.specs.declared.quad.Quad.{Quad}
 
 -- the number is there where it is not 0

@@ -1,24 +1,20 @@
 -- What the expansion of a tree gives: each outcome with what is so exactly there.
-use Rattle.std.specs.Prelude.{◌≡◌, ℕ, ◌<◌, List, length, Some, slice_get, Result, Ok, Err}
+use Rattle.std.specs.Prelude.{◌≡◌, ℕ, ◌<◌, length, Some, slice_get, Result, Ok, Err}
 use Rattle.emp_num.specs.Ratio.{Ratio, SameRatio}
 use Rattle.emp_num.specs.Point.{Point}
 use Rattle.emp_ast.specs.declared.tree.Place.{Place}
-use Rattle.emp_ast.specs.declared.tree.Node.{Node}
 use Rattle.emp_ast.specs.declared.tree.Tree.{Tree}
 use Rattle.emp_ast.specs.Expression.{Expression, expression_of}
 use Rattle.emp_ast.specs.Value.{tree_value}
 use Rattle.emp_form.specs.Expansion.{form, RootFits, IsPolynomial, HasDegree, DividesByVariable, DividesByZero, expression_at}
-use Rattle.emp_form.specs.Wide.{IsWide, IsFree}
+use Rattle.emp_form.specs.Wide.{IsWide}
+use Rattle.emp_expand.specs.Expanding.{AllFree}
 use Rattle.emp_expand.specs.declared.products.NodeFault.{NodeFault}
 use Rattle.emp_expand.specs.declared.products.NodeFault.TheVariants as Node
 use Rattle.emp_poly.specs.Quads.{quad_value, HasForm, IsSmallQuad}
 use Rattle.emp_poly.specs.declared.quad.Quad.{Quad}
 use Rattle.emp_poly.specs.declared.tree.PolyFault.{PolyFault}
 use Rattle.emp_poly.specs.declared.tree.PolyFault.TheVariants.{Degree, DivideByVariable, DivideByZero, Wide, NoMemory}
-
--- no node among the first n has a fault
-abbrev pub AllFree : List Node → ℕ → Type 0
-AllFree nodes n = (j : ℕ) → j < n → IsFree (expression_at nodes j)
 
 -- the node at the place has the fault, and none before it has one
 pub record IsFirst (t : Tree) (place : Place) (HasFault : Expression → Type 0) : Type 0 where

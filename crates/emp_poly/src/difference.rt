@@ -1,6 +1,7 @@
 //! The difference of two polynomials.
 ghost use Rattle.std.specs.Prelude.{IfOk, OnOk};
-ghost use Rattle.emp_poly.specs.Quads.{IsSmall, IsSmallQuad};
+ghost use Rattle.emp_expand.specs.Stands.{IsSmall};
+ghost use Rattle.emp_poly.specs.Quads.{IsSmallQuad};
 ghost use Rattle.emp_poly.specs.Difference.{IsDifference};
 ghost use Rattle.emp_poly.specs.Spread.{IsLess, AreSmall, TakesAway};
 

@@ -1,6 +1,5 @@
 -- Files whose equations are polynomials, affine where they are constraints or functions, and what solves a file.
 use Rattle.std.specs.Prelude.{◌≡◌, ℕ, zero, suc, ◌<◌, Bool, true, false, ◌&&◌, ◌||◌, List, All, length, slice_get, Option, Some, None}
-use Rattle.std.specs.List.{list_any}
 use Rattle.emp_num.specs.Point.{Point}
 use Rattle.emp_ast.specs.declared.tree.VarId.{VarId}
 use Rattle.emp_ast.specs.declared.tree.EquId.{EquId}
@@ -11,12 +10,12 @@ use Rattle.emp_ast.specs.declared.annot.Block.{Block}
 use Rattle.emp_ast.specs.declared.annot.Block.TheVariants.{Agent, Vi}
 use Rattle.emp_ast.specs.declared.annot.Annot.{Annot}
 use Rattle.emp_ast.specs.Expression.{expression_of}
-use Rattle.emp_ast.specs.Meets.{MeetsEquation}
-use Rattle.emp_ast.specs.Parties.{leader, block, is_constraint, functions, names_equation, EachDefinition}
+use Rattle.emp_ast.specs.Parties.{leader, block, is_constraint}
 use Rattle.emp_ast.specs.Equilibrium.{IsEquilibrium}
 use Rattle.emp_ast.specs.Bilevel.{IsAdmissible}
 use Rattle.emp_form.specs.Form.{IsLinear}
 use Rattle.emp_form.specs.Expansion.{form, IsPolynomial}
+use Rattle.emp_owner.specs.Rules.{is_function}
 use Rattle.emp_owner.specs.Settled.{IsKept}
 use Rattle.emp_agents.specs.Given.{difference, given_form}
 
@@ -52,9 +51,6 @@ abbrev pub some_block_constrains : Model → Annot → ℕ → ℕ → Bool
 some_block_constrains m a e zero = false
 some_block_constrains m a e (suc k) = is_constraint m a (block k) e || some_block_constrains m a e k
 
-abbrev pub is_function : Annot → ℕ → Bool
-is_function a e = list_any (λ b. names_equation (functions b) e) a.blocks
-
 -- a constraint of a block, a leader's constraint, or the function of a pair
 abbrev pub is_affine : Model → Annot → ℕ → Bool
 is_affine m a e = some_block_constrains m a e (length a.blocks) || ((a.bilevel && is_constraint m a leader e) || is_function a e)
@@ -78,8 +74,3 @@ SolvesBy true m a p = IsAdmissible m a p
 
 abbrev pub SolvesFile : Model → Annot → Point → Type 0
 SolvesFile m a p = SolvesBy a.bilevel m a p
-
--- the point meets each equation that defines an objective
-pub record MeetsDefinitions (m : Model) (a : Annot) (p : Point) : Type 0 where
-  pub blocks : (k : ℕ) → k < length a.blocks → EachDefinition m a (block k) (λ e q. MeetsEquation p q)
-  pub leads : a.bilevel ≡ true → EachDefinition m a leader (λ e q. MeetsEquation p q)

@@ -1,3 +1,4 @@
+-- What a caller relies on
 pub mod Left
 pub mod GameOf
 pub mod Problem

@@ -1,7 +1,8 @@
 -- The game that a problem of the variables that are left is: all its coefficients times one number n above 0.
-use Rattle.std.specs.Prelude.{◌≡◌, ℕ, ℤ, pos, ◌*ℤ◌, ◌<ℤ◌, int_div, cond, nat_lt, List, All, map, Option, Some, None}
+use Rattle.std.specs.Prelude.{◌≡◌, ℕ, ℤ, pos, ◌*ℤ◌, ◌<ℤ◌, int_div, cond, nat_lt, ◌<◌, List, All, length, map, Option, Some, None}
 use Rattle.emp_num.specs.Whole.{whole}
 use Rattle.emp_num.specs.declared.frac.Frac.{Frac}
+use Rattle.emp_ast.specs.declared.tree.VarId.{VarId}
 use Rattle.emp_systems.specs.Steps.{Quadratic}
 use Rattle.emp_poly.specs.Quads.{linear_at, square_at}
 use Rattle.emp_poly.specs.declared.quad.Quad.{Quad}
@@ -20,6 +21,20 @@ use Rattle.emp_problem.specs.Left.{place_in}
 -- the numbers of the variables that are left, in order
 abbrev pub left_of : AgentProblem → List ℕ
 left_of pr = map (λ v. v.variable.at) pr.variables
+
+-- where the variable stands among them
+abbrev pub place_of : AgentProblem → VarId → ℕ
+place_of pr v = place_in (left_of pr) v.at
+
+-- there is a function for each own variable of a variational inequality
+abbrev pub HasFunctions : List VarId → Purpose → Type 0
+HasFunctions own (Goal q) = Unit {0}
+HasFunctions own (Flow fs) = length fs ≡ length own
+
+-- the leader's own variables are among those that are left
+abbrev pub LeaderFits : AgentProblem → Option LeaderPart → Type 0
+LeaderFits pr None = Unit {0}
+LeaderFits pr (Some l) = All (λ v. place_of pr v < length pr.variables) l.own
 
 -- ---- coefficients times n
 abbrev pub times_over : ℤ → Frac → ℤ

@@ -1,3 +1,5 @@
+-- What a caller relies on
 pub mod System
 pub mod Over
+-- Laws
 pub mod Laws

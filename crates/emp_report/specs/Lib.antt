@@ -1,7 +1,5 @@
--- Fault lines
+-- What a caller relies on
 pub mod TextLines
 pub mod ClassLines
--- Lines of certificates
 pub mod CertLines
--- Reports
 pub mod Report

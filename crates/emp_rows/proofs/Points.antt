@@ -12,6 +12,7 @@ use Rattle.emp_num.specs.Point.{Point, StandsFor}
 use Rattle.emp_num.specs.Ratio.{Ratio}
 use Rattle.emp_num.specs.SamePoint.{lowest}
 use Rattle.emp_num.proofs.SamePoints.{lowest_is, cross_on}
+use Rattle.emp_num.proofs.Standing.{stands_at}
 use Rattle.emp_rows.specs.declared.affine.Affine.{Affine}
 use Rattle.emp_rows.specs.declared.system.Kind.{Kind}
 use Rattle.emp_rows.specs.declared.system.Kind.TheVariants.{Zero, Nonneg}
@@ -73,7 +74,7 @@ coordinates (f ∷ fs) d [] e h = absurd (omega arith)
 coordinates (f ∷ fs) d (n ∷ ns) e h = (h 0 f (omega arith), coordinates fs d ns (omega arith) (λ k g l. h (suc k) g (omega arith)))
 
 of_point : (fs : List Frac) (p : Point) → StandsFor fs p → Coordinates fs p.den p.nums
-of_point fs p s = coordinates fs p.den p.nums s.count s.same
+of_point fs p s = coordinates fs p.den p.nums s.count (stands_at fs p s)
 
 one_more : (T x D : ℤ) → (T +ℤ x) +ℤ D ≡ T +ℤ (x +ℤ D)
 one_more T x D = omega (arith, linear)

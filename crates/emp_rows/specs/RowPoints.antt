@@ -16,7 +16,7 @@ sort_of Nonneg = to_be_nonneg
 abbrev pub no_row : Affine
 no_row = record { cells = []; constant = pos 0 }
 
--- quantities and pairs are numbered from 1
+-- quantities and pairs are numbered from 1; no member of a pair has number 0 (`IsMember`)
 abbrev pub quantity : RowSystem → ℕ → Affine
 quantity s k = slice_index_or s.quantities (k - 1) no_row
 

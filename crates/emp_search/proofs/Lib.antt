@@ -3,3 +3,5 @@ pub mod Working
 pub mod Solved
 pub mod Showing
 pub mod Rooted
+pub mod Searches
+pub mod Rays

@@ -1,3 +1,7 @@
+-- What a caller relies on
 pub mod Search
-pub mod Nodes
+-- Laws
 pub mod Shown
+pub mod Example
+-- What only helps proofs
+pub mod Nodes

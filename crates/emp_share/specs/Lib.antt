@@ -1,3 +1,6 @@
+-- What a caller relies on
 pub mod Share
-pub mod Steps
+-- Laws
 pub mod Laws
+-- What only helps proofs
+pub mod Steps

@@ -7,6 +7,7 @@ use Rattle.emp_num.specs.Point.{Point, coordinate, StandsFor}
 use Rattle.emp_num.specs.Whole.{whole}
 use Rattle.emp_num.specs.declared.frac.Frac.{Frac}
 use Rattle.emp_num.proofs.SamePoints.{cross_on}
+use Rattle.emp_num.proofs.Standing.{stands_at}
 use Rattle.emp_ast.specs.declared.model.Model.{Model}
 use Rattle.emp_ast.specs.declared.annot.Annot.{Annot}
 use Rattle.emp_poly.specs.Written.{entry}
@@ -24,7 +25,7 @@ count_is m a pr h = ap length h.variables ∙ length-map (left m a) (left_variab
 
 -- each entry of the list is the point's coordinate
 stands : (fs : List Frac) (q : Point) (k : ℕ) → StandsFor fs q → k < length fs → SameRatio (as_ratio (entry fs k)) (coordinate q k)
-stands fs q k h l = h.same k (whole 0) l
+stands fs q k h l = stands_at fs q h k (whole 0) l
 
 pub filled_is_file : FilledIsFile
 filled_is_file m a s fs values q p h count fill at to =

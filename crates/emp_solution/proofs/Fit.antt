@@ -1,37 +1,24 @@
 -- The problem of a file of the class is fit to have rows.
-use Rattle.std.proofs.Common.{◌≡◌, ◌≤◌, length, List, Option, Some, None, Ok, arith, get_or}
+use Rattle.std.proofs.Common.{◌≡◌, ◌≤◌, length, Ok, arith}
 use Rattle.std.proofs.lemmas.List.{length-map}
-use Rattle.emp_ast.specs.declared.tree.VarId.{VarId}
 use Rattle.emp_ast.specs.declared.model.Model.{Model}
 use Rattle.emp_ast.specs.declared.annot.Annot.{Annot}
 use Rattle.emp_rows.specs.declared.system.RowSystem.{RowSystem}
 use Rattle.emp_split.specs.Games.{coordinates}
-use Rattle.emp_problem.specs.declared.problem.Purpose.{Purpose}
-use Rattle.emp_problem.specs.declared.problem.Purpose.TheVariants.{Goal, Flow}
-use Rattle.emp_problem.specs.declared.problem.LeaderPart.{LeaderPart}
 use Rattle.emp_problem.specs.declared.problem.AgentProblem.{AgentProblem}
 use Rattle.emp_problem.specs.Problem.{game}
 use Rattle.emp_problem.specs.ProblemOf.{IsProblemOf}
 use Rattle.emp_problem.specs.Class.{IsClassFile}
 use Rattle.emp_whole.proofs.Multiples.{each_problem_is_whole}
-use Rattle.emp_subst.specs.Keeps as Keeps
 use Rattle.emp_subst.proofs.Keeping.{own_keeps, functions_keep, duals_keep, leader_keeps}
-use Rattle.emp_kkt.specs.Gives.{HasFunctions, LeaderFits, IsFit, KktGives}
-
-functions_fit : (own : List VarId) (p : Purpose) → Keeps.HasFunctions own p → HasFunctions own p
-functions_fit own (Goal q) h = tt
-functions_fit own (Flow fs) h = h
-
-leader_fits : (pr : AgentProblem) (l : Option LeaderPart) → Keeps.LeaderFits pr l → LeaderFits pr l
-leader_fits pr None h = tt
-leader_fits pr (Some l) h = h
+use Rattle.emp_kkt.specs.Gives.{IsFit, KktGives}
 
 pub fit : (m : Model) (a : Annot) (pr : AgentProblem) → IsClassFile m a → IsProblemOf m a pr → IsFit pr
 fit m a pr class problem = record {
   own = own_keeps m a pr class problem;
-  functions = λ k d l. functions_fit (get_or pr.blocks k d).own (get_or pr.blocks k d).purpose (functions_keep m a pr problem k d l);
+  functions = functions_keep m a pr problem;
   duals = duals_keep m a pr class problem;
-  leader = leader_fits pr pr.leader (leader_keeps m a pr problem);
+  leader = leader_keeps m a pr problem;
 }
 
 -- the base variables begin with those that are left

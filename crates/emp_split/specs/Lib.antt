@@ -1,4 +1,6 @@
+-- What a caller relies on
 pub mod Games
 pub mod Numbers
 pub mod Meaning
+-- Laws
 pub mod Laws

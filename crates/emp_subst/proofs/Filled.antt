@@ -9,6 +9,7 @@ use Rattle.emp_num.specs.Ratio.{Ratio, negated as opposite, SameRatio}
 use Rattle.emp_num.specs.Point.{Point, coordinate, StandsFor}
 use Rattle.emp_num.specs.Whole.{whole}
 use Rattle.emp_num.specs.declared.frac.Frac.{Frac}
+use Rattle.emp_num.proofs.Standing.{stands_at}
 use Rattle.emp_ast.specs.declared.model.Equation.{Equation}
 use Rattle.emp_ast.specs.declared.model.Variable.{Variable}
 use Rattle.emp_ast.specs.declared.model.Sense.{Sense}
@@ -249,7 +250,7 @@ party_meets m a pr values list p k s w e q class are stands is defined inside g 
     den = (given_is_form m a k (s, w) is polynomials).den
 
     own : SameRatio (coordinate p w) (as_ratio (entry list w))
-    own = sym (stands.same w (whole 0) (let c = are.count in omega arith))
+    own = sym (stands_at list p stands w (whole 0) (let c = are.count in omega arith))
 
     value : SameRatio (coordinate p w) (form_value p (given_form m a k))
     value = ratio_trans (coordinate p w) (as_ratio (entry list w)) (form_value p (given_form m a k)) (entry list w).positive own (turned_same p s turns.number (entry list w) (given_form m a k) den turns.turned folded)
@@ -278,7 +279,7 @@ filling m a pr values list class problem count are = record {
         let h = left_entry m a values i (within i l) in
         let c = are.count in
         let n = h.inside in
-        subst (λ (x : Frac). SameRatio (coordinate p (slice_index_or (left m a) i 0)) (as_ratio x)) (entries i l) (sym (stands.same (slice_index_or (left m a) i 0) (whole 0) (omega arith)))
+        subst (λ (x : Frac). SameRatio (coordinate p (slice_index_or (left m a) i 0)) (as_ratio x)) (entries i l) (sym (stands_at list p stands (slice_index_or (left m a) i 0) (whole 0) (omega arith)))
 
     none_defines : (k : Party) (e : ℕ) → objective m a k ≡ None → defines m a k e ≡ true → ⊥
     none_defines k e is d = false≢true (subst (λ o. defines_by m a k e o ≡ true) is d)

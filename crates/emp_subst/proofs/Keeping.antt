@@ -24,10 +24,10 @@ use Rattle.emp_problem.specs.declared.problem.BlockPart.{BlockPart}
 use Rattle.emp_problem.specs.declared.problem.LeaderPart.{LeaderPart}
 use Rattle.emp_problem.specs.declared.problem.AgentProblem.{AgentProblem}
 use Rattle.emp_problem.specs.Left.{left_from, left, place_in, leader_own, block_flow}
-use Rattle.emp_problem.specs.Problem.{left_of}
+use Rattle.emp_problem.specs.Problem.{left_of, place_of, HasFunctions, LeaderFits}
 use Rattle.emp_problem.specs.ProblemOf.{left_variable, AreFlowsFor, IsPurposeFor, IsBlockFor, LeadsFor, IsProblemOf}
 use Rattle.emp_problem.specs.Class.{VariablesFit, BlockFits, AnnotFits, IsClassFile}
-use Rattle.emp_subst.specs.Keeps.{place_of, RisesFrom, HasFunctions, LeaderFits}
+use Rattle.emp_subst.specs.Keeps.{RisesFrom}
 use Rattle.emp_subst.proofs.Constraints.{all_cons, all_head, all_tail, all_append, all_filter, all_map}
 use Rattle.emp_subst.proofs.Defined.{defines_parts}
 use Rattle.emp_subst.proofs.Owners.{count_one, one_block, named_leader, owner_at, goal_named}

@@ -10,6 +10,7 @@ use Rattle.emp_num.specs.Ratio.{ratio, plus, times, SameRatio}
 use Rattle.emp_num.specs.Point.{Point, coordinate, StandsFor}
 use Rattle.emp_num.specs.Whole.{whole}
 use Rattle.emp_num.specs.declared.frac.Frac.{Frac}
+use Rattle.emp_num.proofs.Standing.{stands_at, stands_from}
 use Rattle.emp_ast.specs.declared.tree.VarId.{VarId}
 use Rattle.emp_form.specs.Calls.{Gives}
 use Rattle.emp_poly.specs.Quads.{as_ratio, linear_value, square_value, quad_value}
@@ -29,7 +30,7 @@ cell_pad (x ∷ xs) zero = refl
 cell_pad (x ∷ xs) (suc k) = cell_pad xs k
 
 longer_stands : (xs : List Frac) (p : Point) → StandsFor xs p → StandsFor (xs ++ whole 0 ∷ []) (longer p)
-longer_stands xs p h = record { count = count; same = same }
+longer_stands xs p h = stands_from (xs ++ whole 0 ∷ []) (longer p) count same
   where
     count : length (p.nums ++ pos 0 ∷ []) ≡ length (xs ++ whole 0 ∷ [])
     count = let c = h.count in omega (arith, length-append p.nums (pos 0 ∷ []), length-append xs (whole 0 ∷ []))
@@ -47,7 +48,7 @@ longer_stands xs p h = record { count = count; same = same }
       where
         go : (k < length xs) ⊎ (length xs ≤ k) → (slice_index_or (xs ++ whole 0 ∷ []) k f).num *ℤ p.den ≡ cell (p.nums ++ pos 0 ∷ []) k *ℤ (slice_index_or (xs ++ whole 0 ∷ []) k f).den
         go (inl below) =
-            subst₂ (λ (x : Frac) z. x.num *ℤ p.den ≡ z *ℤ x.den) (sym (get_or_append_left xs (whole 0 ∷ []) f k below)) (sym (cell_pad p.nums k)) (h.same k f below)
+            subst₂ (λ (x : Frac) z. x.num *ℤ p.den ≡ z *ℤ x.den) (sym (get_or_append_left xs (whole 0 ∷ []) f k below)) (sym (cell_pad p.nums k)) (stands_at xs p h k f below)
         go (inr above) =
             let c = h.count in
             subst₂ (λ (x : Frac) z. x.num *ℤ p.den ≡ z *ℤ x.den) (sym (at_end k f above (let n = length-append xs (whole 0 ∷ []) in omega (arith, n, l)))) (sym (cell_pad p.nums k ∙ past p.nums k (omega arith))) (zero-*ℤ p.den ∙ sym (zero-*ℤ (pos 1)))

@@ -8,7 +8,7 @@ use Rattle.emp_ast.specs.declared.model.Variable.{Variable}
 use Rattle.emp_ast.specs.declared.model.Model.{Model}
 use Rattle.emp_ast.specs.declared.annot.Annot.{Annot}
 use Rattle.emp_ast.specs.Parties.{leader, block, is_defined, is_defined_of}
-use Rattle.emp_ast.specs.Rivals.{Fits}
+use Rattle.emp_ast.specs.Rivals.{Fits, MeetsDefinitions}
 use Rattle.emp_form.specs.Calls.{Formula, given, HasWideCall}
 use Rattle.emp_poly.specs.Quads.{as_ratio}
 use Rattle.emp_poly.specs.Written.{entry, linear_from, written_value}
@@ -18,7 +18,6 @@ use Rattle.emp_problem.specs.declared.problem.BlockPart.{BlockPart}
 use Rattle.emp_problem.specs.declared.problem.LeaderPart.{LeaderPart}
 use Rattle.emp_problem.specs.declared.problem.AgentProblem.{AgentProblem}
 use Rattle.emp_problem.specs.Left.{left}
-use Rattle.emp_problem.specs.Class.{MeetsDefinitions}
 use Rattle.emp_subst.specs.declared.fault.FillFault.{FillFault}
 use Rattle.emp_subst.specs.declared.fault.FillFault.TheVariants.{Wide, NoMemory}
 

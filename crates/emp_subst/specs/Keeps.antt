@@ -1,35 +1,19 @@
 -- What the problem of a file keeps.
-use Rattle.std.specs.Prelude.{◌≡◌, ℕ, suc, ◌<◌, ◌≤◌, List, [], ◌∷◌, All, map, length, slice_get, Option, Some, None}
-use Rattle.emp_ast.specs.declared.tree.VarId.{VarId}
+use Rattle.std.specs.Prelude.{◌≡◌, ℕ, suc, ◌<◌, ◌≤◌, List, [], ◌∷◌, All, map, length, slice_get, Some}
 use Rattle.emp_ast.specs.declared.model.Model.{Model}
 use Rattle.emp_ast.specs.declared.annot.Annot.{Annot}
 use Rattle.emp_game.specs.Game.{AreApart}
 use Rattle.emp_problem.specs.declared.problem.Rule.{Rule}
-use Rattle.emp_problem.specs.declared.problem.Purpose.{Purpose}
-use Rattle.emp_problem.specs.declared.problem.Purpose.TheVariants.{Goal, Flow}
 use Rattle.emp_problem.specs.declared.problem.BlockPart.{BlockPart}
-use Rattle.emp_problem.specs.declared.problem.LeaderPart.{LeaderPart}
 use Rattle.emp_problem.specs.declared.problem.AgentProblem.{AgentProblem}
-use Rattle.emp_problem.specs.Left.{place_in}
-use Rattle.emp_problem.specs.Problem.{left_of}
+use Rattle.emp_problem.specs.Problem.{left_of, place_of, HasFunctions, LeaderFits}
 use Rattle.emp_problem.specs.ProblemOf.{IsProblemOf}
 use Rattle.emp_problem.specs.Class.{IsClassFile}
-
-abbrev pub place_of : AgentProblem → VarId → ℕ
-place_of pr v = place_in (left_of pr) v.at
 
 -- strictly rising, from `least` on
 abbrev pub RisesFrom : ℕ → List ℕ → Type 0
 RisesFrom least [] = Unit {0}
 RisesFrom least (v ∷ vs) = (least ≤ v) × RisesFrom (suc v) vs
-
-abbrev pub HasFunctions : List VarId → Purpose → Type 0
-HasFunctions own (Goal q) = Unit {0}
-HasFunctions own (Flow fs) = length fs ≡ length own
-
-abbrev pub LeaderFits : AgentProblem → Option LeaderPart → Type 0
-LeaderFits pr None = Unit {0}
-LeaderFits pr (Some l) = All (λ v. place_of pr v < length pr.variables) l.own
 
 -- the rule stands in some block
 pub record HasRule (pr : AgentProblem) (r : Rule) : Type 0 where

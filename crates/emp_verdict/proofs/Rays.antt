@@ -56,7 +56,7 @@ same_along p v r q d w t x i is here step moved =
 after_file : (m : Model) (a : Annot) (p v q d r w : Point) (t : ℕ) → HasCoordinates m a p q → HasCoordinates m a v d → IsAfterSteps m a p v t r → IsAlong q d t w → IsFileOf m a w r
 after_file m a p v q d r w t here step after is = record {
   fits = after.fits;
-  definitions = record { blocks = λ k l. after.given k l; leads = λ b. after.leader_given };
+  definitions = after.definitions;
   same = λ i l. let x = left_meets m a i l in same_along p v r q d w t (get_or (left m a) i 0) i is (here i l) (step i l) (after.moved (get_or (left m a) i 0) x.0 x.1);
 }
 
@@ -78,15 +78,14 @@ moved_to m a p v t f x among =
     refl
     ∙ ap (λ z. (cell p.nums x *ℤ (pos 1 *ℤ v.den) +ℤ pos t *ℤ cell v.nums x *ℤ p.den) *ℤ z) (sym f.den))
 
-some_after : FileIsGame → (m : Model) (a : Annot) (s : RowSystem) (p v : Point) (t : ℕ) → HasRows m a s → a.bilevel ≡ true → (r : Point) × IsAfterSteps m a p v t r
-some_after laws m a s p v t rows bilevel =
+some_after : FileIsGame → (m : Model) (a : Annot) (s : RowSystem) (p v : Point) (t : ℕ) → HasRows m a s → (r : Point) × IsAfterSteps m a p v t r
+some_after laws m a s p v t rows =
     let f = laws.fills m a (v.den *ℤ p.den) (left_along m a p v t) rows.class (mul_pos v.den p.den v.positive p.positive) (length-map (left m a) _) in (
       f.point,
       record {
         fits = f.fits;
         moved = λ x l d. moved_to m a p v t f x (left_finds m a x l d);
-        leader_given = f.definitions.leads bilevel;
-        given = f.definitions.blocks;
+        definitions = f.definitions;
       },
     )
 
@@ -104,7 +103,7 @@ ray_below s q d ray r o t w u h k = subst (λ (x : Option Affine). IsBelowBy x u
 pub rays_are_rays : FileIsGame → RaysAreRays
 rays_are_rays laws m a s p v q d rows bilevel ray file fits step = record {
   start = points_admissible laws m a s p q rows bilevel ray.point file;
-  after = λ t. some_after laws m a s p v t rows bilevel;
+  after = λ t. some_after laws m a s p v t rows;
   admissible = λ t r after. let w = some_along q d t in points_admissible laws m a s r w.0 rows bilevel (ray_solves s q d ray t w.0 w.1) (after_file m a p v q d r w.0 t file.same step after w.1);
   improves = better;
 }

@@ -8,6 +8,7 @@ use Rattle.emp_num.proofs.SamePoints.{same_back}
 use Rattle.emp_ast.specs.declared.model.Model.{Model}
 use Rattle.emp_ast.specs.declared.annot.Annot.{Annot}
 use Rattle.emp_ast.specs.Bilevel.{IsAdmissible, IsBetterForLeader}
+use Rattle.emp_ast.specs.Rivals.{MeetsDefinitions}
 use Rattle.emp_ast.proofs.SameWords.{same_points_are_one}
 use Rattle.emp_rows.specs.declared.affine.Affine.{Affine}
 use Rattle.emp_rows.specs.declared.system.RowSystem.{RowSystem}
@@ -16,7 +17,7 @@ use Rattle.emp_split.specs.Games.{coordinates}
 use Rattle.emp_split.specs.Meaning.{IsAdmissible as IsGameAdmissible, IsBetter}
 use Rattle.emp_quantities.specs.System.{IsBelowBy}
 use Rattle.emp_quantities.proofs.Numbering.{over_orders}
-use Rattle.emp_problem.specs.Class.{SolvesBy, SolvesFile, MeetsDefinitions}
+use Rattle.emp_problem.specs.Class.{SolvesBy, SolvesFile}
 use Rattle.emp_meaning.specs.Laws.{left_nums, IsWellMade, GameSolvesFile, FileSolvesGame, OrdersAgree, CoordinatesFill, GamesAreWellMade}
 use Rattle.emp_verdict.specs.Laws.{HasRows, IsFileOf, PointsSolve, MissingHaveNone, BestAreBest}
 use Rattle.emp_verdict.proofs.Scaled.{over, over_same, solves_over, below_over}

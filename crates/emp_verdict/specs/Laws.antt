@@ -4,7 +4,7 @@ use Rattle.emp_num.specs.Ratio.{SameRatio}
 use Rattle.emp_num.specs.Point.{Point, coordinate}
 use Rattle.emp_ast.specs.declared.model.Model.{Model}
 use Rattle.emp_ast.specs.declared.annot.Annot.{Annot}
-use Rattle.emp_ast.specs.Rivals.{Fits}
+use Rattle.emp_ast.specs.Rivals.{Fits, MeetsDefinitions}
 use Rattle.emp_ast.specs.Bilevel.{IsBest, IsRay}
 use Rattle.emp_rows.specs.declared.system.RowSystem.{RowSystem}
 use Rattle.emp_rows.specs.RowPoints.{Solves}
@@ -13,7 +13,7 @@ use Rattle.emp_split.specs.Games.{Game, IsConvexGame}
 use Rattle.emp_quantities.specs.Over.{IsSystemOver}
 use Rattle.emp_problem.specs.Left.{left}
 use Rattle.emp_problem.specs.GameOf.{IsGameOf}
-use Rattle.emp_problem.specs.Class.{IsClassFile, SolvesFile, MeetsDefinitions}
+use Rattle.emp_problem.specs.Class.{IsClassFile, SolvesFile}
 
 -- the row system of a file of the class whose agents are convex: that of its game, whose numbers are those of the file times `times`
 pub record HasRows (m : Model) (a : Annot) (s : RowSystem) : Type 0 where

@@ -1,3 +1,4 @@
+-- What a caller relies on
 pub mod Canonical
 pub mod Decimals
 pub mod Lines

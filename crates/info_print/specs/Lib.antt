@@ -1,2 +1,3 @@
+-- What a caller relies on
 pub mod Canonical
 pub mod ReadsBack

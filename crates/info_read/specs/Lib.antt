@@ -1,8 +1,9 @@
--- What the meaning of a text rests on
+-- What a caller relies on
 pub mod Lexemes
 pub mod Grammar
 pub mod Faults
 pub mod Texts
+-- Laws
 pub mod Laws
 pub mod Examples
 -- What only helps proofs

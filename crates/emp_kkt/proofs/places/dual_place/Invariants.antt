@@ -1,6 +1,7 @@
 use Rattle.std.proofs.Common.{◌≡◌, drop, map}
 use Rattle.emp_split.specs.Games.{dual_of}
-use Rattle.emp_kkt.specs.Items.{shape, place_of}
+use Rattle.emp_kkt.specs.Items.{shape}
+use Rattle.emp_problem.specs.Problem.{place_of}
 use Rattle.emp_kkt.proofs.places.dual_place.Given as goal
 
 abbrev pub invariant-loop-at : goal.invariant-loop-at
