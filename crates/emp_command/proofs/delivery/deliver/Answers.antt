@@ -1,5 +1,5 @@
-use Rattle.std.proofs.Common.{inl, inr, refl, map, subst₂, ◌∙◌}
-use Rattle.emp_command.specs.Lines.{unwritten_line, no_memory_line}
+use Rattle.std.proofs.Common.{map, subst₂, ◌∙◌}
+use Rattle.emp_command.specs.Lines.{unwritten_line}
 use Rattle.emp_command.specs.Deliveries.{SayEnds, stored_of}
 use Rattle.emp_command.proofs.Delivering.{stored_end, unstored_end, no_room_end, failed_cause}
 use Rattle.emp_command.proofs.delivery.deliver.Goals as goal
