@@ -12,3 +12,4 @@ pub mod Whole
 pub mod Same
 pub mod Back
 pub mod Begin
+pub mod OneFault

@@ -61,7 +61,7 @@ node_is h l (Branch k) e = sym (ap (λ x. node_parts h (first (drop 1 x))) e)
 node_is h l (Farkas fs) e = sym (ap (λ x. node_parts h (first (drop 1 x))) e)
 node_is h l (Bound w fs) e = sym (ap (λ x. node_parts h (first (drop 1 x))) e)
 
-stands_same : (p : Part) (l : List ℕ) (qs ms : List Part) → Stands p l qs → Stands p l ms → qs ≡ ms
+pub stands_same : (p : Part) (l : List ℕ) (qs ms : List Part) → Stands p l qs → Stands p l ms → qs ≡ ms
 stands_same (counts second) l qs ms h k =
     let s = sizes_same h.0 h.1 h.2 k.0 k.1 k.2 h.3 k.3 (sym h.4 ∙ k.4) in
     h.5 ∙ (ap (λ x. behind_counts second x h.1 h.2) s.0 ∙ (ap (λ x. behind_counts second k.0 x h.2) s.1 ∙ (ap (λ x. behind_counts second k.0 k.1 x) s.2 ∙ sym k.5)))
@@ -139,7 +139,7 @@ small_runs zero ps t qs r s h = subst (λ (x : List Part). AllSmall x) h.0 s
 small_runs (suc n) [] t qs r s h = absurd h
 small_runs (suc n) (p ∷ ps) t qs r s h = small_runs n (h.0 ++ ps) (drop_through 10 t) qs r (small_append h.0 ps (small_on p (take_through 10 t) h.0 s.0 h.1) s.1) h.2
 
-right_stands : (p : Part) (l : List ℕ) (qs : List Part) → Small p → Stands p l qs → Right p l
+pub right_stands : (p : Part) (l : List ℕ) (qs : List Part) → Small p → Stands p l qs → Right p l
 right_stands (counts second) l qs s h = (spaced (map signed_decimal (pos h.0 ∷ (pos h.1 ∷ (pos h.2 ∷ [])))) ++ 10 ∷ [], h.4, numbers_right 3 _ (pos h.0 ∷ (pos h.1 ∷ (pos h.2 ∷ []))) refl refl (narrow_three h.0 h.1 h.2 h.3))
 right_stands (pair q) l qs s h = (spaced (map signed_decimal (pos h.0.0.0 ∷ (pos h.0.0.1 ∷ []))) ++ 10 ∷ [], h.0.3, numbers_right 2 _ (pos h.0.0.0 ∷ (pos h.0.0.1 ∷ [])) refl refl (narrow_two h.0.0.0 h.0.0.1 q (omega (arith, s)) h.0.1 h.0.2))
 right_stands (verdict x) l qs s h = verdict_right x l qs h

@@ -1,10 +1,12 @@
--- The law of what may stand line by line, as a statement.
-use Rattle.std.specs.Prelude.{◌≡◌, ℕ, ◌≤◌, List, [], ◌∷◌, ◌++◌}
+-- The laws of what may stand line by line, and of faults, as statements.
+use Rattle.std.specs.Prelude.{◌≡◌, ◌≢◌, ℕ, ◌≤◌, List, [], ◌∷◌, ◌++◌}
 use Rattle.emp_cert.specs.declared.cert.Cert.{Cert}
 use Rattle.emp_cert_text.specs.Text.{cert_text}
 use Rattle.emp_cert_text.specs.Course.{Part, Reaches}
 use Rattle.emp_cert_text.specs.Course.Part.{counts, pair, verdict, point, ray, tree, last}
-use Rattle.emp_cert_text.specs.Reading.{IsSame}
+use Rattle.emp_cert_text.specs.Reading.{IsSame, ReadFails}
+use Rattle.emp_cert_text.specs.declared.read.CertFault.{CertFault}
+use Rattle.emp_cert_text.specs.declared.read.CertFault.TheVariants.{NoMemory}
 
 -- no line can stand for a pair where there are no quantities
 abbrev pub CanStand : Part → Type 0
@@ -37,3 +39,7 @@ pub record CourseIsCerts : Type 0 where
   pub one : (c d : Cert) → cert_text c ≡ cert_text d → IsSame c d
   -- the lines before line n are the first lines of a certificate, but where pairs are to come and there are no quantities
   pub begins : (t : List ℕ) (n : ℕ) (ps : List Part) (r : List ℕ) → Reaches t n ps r → AllCanStand ps → Begins t r
+
+-- a text has one fault, but for the want of memory
+abbrev pub OneCertFault : Type 0
+OneCertFault = (t : List ℕ) (e f : CertFault) → e ≢ NoMemory → f ≢ NoMemory → ReadFails t e → ReadFails t f → e ≡ f
