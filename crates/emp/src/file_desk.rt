@@ -1,18 +1,15 @@
 //! The desk of real files and standard output: the one place where the program meets the system.
 //!
-//! No clause says which bytes reach the system or come from it, so this desk tells nothing of its files and its output.
-//! What it does is tested and not proved.
+//! No clause says which bytes a file holds or where they go, so this desk tells nothing of its files and its output. What it reads of
+//! an open file and writes to one is that of `streams`; that it opens the file of the name is tested and not proved.
 ghost use Rattle.std.specs.Prelude.{◌≡◌, ◌≢◌, ◌≤◌, ℕ, None, Ok, Err, IfOk, OnOk, OnErr, vec_len};
 ghost use Rattle.emp_desk.specs.Desk.{Place, Rose};
 
+use crate::streams::{NotTaken, read_first, write_whole};
 use emp_desk::desk::{Desk, LoadFault, StoreFault};
 use std::alloc::Global;
-use std::io::{Read, Write};
 use std::rt::Files;
 use std::{fs, io};
-
-/// The bytes that one read asks for at most.
-const CHUNK: usize = 4096;
 
 /// The files of the system by their paths, and standard output.
 ///
@@ -22,9 +19,6 @@ pub struct FileDesk<R: Files + Print + Drop> {
     rt: R,
     failures: u64,
 }
-
-/// The system did not take all bytes.
-struct NotTaken;
 
 impl<R: Files + Print + Drop> FileDesk<R> {
     /// A desk over this runtime, with no failure yet.
@@ -55,42 +49,6 @@ impl<R: Files + Print + Drop> FileDesk<R> {
             return Err(NotTaken);
         };
         write_whole(&mut file, bytes)
-    }
-}
-
-/// Reads until the end, or until there are `most` bytes. Each turn takes at least one byte or is the last.
-fn read_first<F: Read>(alloc: Global, file: &mut F, most: usize) -> Result<Vec<u8>, LoadFault>
-    ensures { IfOk result (λ bytes. vec_len bytes ≤ most) }
-{
-    let mut bytes = Vec::new(alloc);
-    let mut chunk = [0u8; CHUNK];
-    for _ in 0..most {
-        let wanted = (most - bytes.len()).min(CHUNK);
-        let Ok(taken) = file.read(&mut chunk[..wanted]) else {
-            return Err(LoadFault::Failed);
-        };
-        if taken == 0 {
-            return Ok(bytes);
-        }
-        if bytes.extend_from_slice(&chunk[..taken]).is_err() {
-            return Err(LoadFault::NoMemory);
-        }
-    }
-    Ok(bytes)
-}
-
-/// Writes all the bytes, and flushes them. A write that takes nothing is a failure.
-fn write_whole<W: Write>(to: &mut W, bytes: &[u8]) -> Result<(), NotTaken> {
-    let mut at = 0;
-    while at < bytes.len() {
-        match to.write(&bytes[at..]) {
-            Ok(taken) if taken > 0 => at += taken,
-            _ => return Err(NotTaken),
-        }
-    }
-    match to.flush() {
-        Ok(()) => Ok(()),
-        Err(_) => Err(NotTaken),
     }
 }
 

@@ -4,6 +4,7 @@
 mod file_desk;
 #[cfg(test)]
 mod file_run;
+mod streams;
 
 use emp_engine::run::run;
 use file_desk::FileDesk;

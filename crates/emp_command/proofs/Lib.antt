@@ -4,3 +4,4 @@ pub mod Loading
 pub mod Texts
 pub mod Storing
 pub mod Delivering
+pub mod OneRequest

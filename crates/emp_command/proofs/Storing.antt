@@ -2,8 +2,7 @@
 use Rattle.std.proofs.Common.{◌≡◌, ℕ, ◌+◌, ◌<◌, ◌≤◌, inl, inr, List, [], ◌∷◌, ◌++◌, map, take, drop, length, get_or, Option, refl, sym, ap, subst, subst₂, ◌∙◌}
 use Rattle.std.proofs.lemmas.List.{take_all}
 use Rattle.emp_desk.specs.Desk.{Place, stores, Contents, Told, KeepsAll, Stores, StoresPrefix, NoneFalls, Rose}
-use Rattle.emp_command.specs.Course.{StoresAll, StoresPart}
-use Rattle.emp_command.specs.Deliveries.{SomeStoreRose}
+use Rattle.emp_command.specs.Course.{StoresAll, StoresPart, SomeStoreRose}
 use Rattle.emp_command.proofs.Telling.{told_join, rose_second}
 use Rattle.emp_command.proofs.Texts.{map-append, take-one, cut-one, kept_here}
 

@@ -1,7 +1,7 @@
 -- What a call comes to: its words, the files that it reads, what is answered over their texts, and what it stores and says.
 -- `answers` says what an answer over the texts is; the layers above give it.
 use Rattle.std.specs.Prelude.{◌≡◌, ◌⊎◌, ℕ, ◌+◌, ◌<◌, ◌≤◌, cond, nat_eq, List, [], ◌∷◌, ◌++◌, map, length}
-use Rattle.emp_desk.specs.Desk.{Place, loads, Contents, KeepsAll, Stores, StoresPrefix, Says, SaysPrefix, Rose}
+use Rattle.emp_desk.specs.Desk.{Place, loads, stores, output, Contents, KeepsAll, Stores, StoresPrefix, Says, SaysPrefix, Rose}
 use Rattle.emp_command.specs.declared.words.Verb.TheVariants.{Make}
 use Rattle.emp_command.specs.Words.{Asked, Asks, IsPlain}
 use Rattle.emp_command.specs.Lines.{bad_words_line, unread_line, unwritten_line, too_long_line, no_memory_line, work_line, firms_line}
@@ -66,19 +66,24 @@ abbrev pub StoresPart : List (List ℕ × List ℕ) → Contents → Contents �
 StoresPart [] before after = ⊥
 StoresPart (s ∷ ss) before after = StoresPrefix s.0 s.1 before after ⊎ ((between : Contents) × Stores s.0 s.1 before between × StoresPart ss between after)
 
--- a say or a store fails with 12, or with 21 for want of memory
-abbrev pub IsCut : ℕ → Type 0
-IsCut status = (status ≡ 12) ⊎ (status ≡ 21)
+-- the count of the stores of one of the files rose
+abbrev pub SomeStoreRose : List (List ℕ × List ℕ) → (Place → ℕ) → (Place → ℕ) → Type 0
+SomeStoreRose [] old new = ⊥
+SomeStoreRose (s ∷ ss) old new = Rose (old (stores s.0)) (new (stores s.0)) ⊎ SomeStoreRose ss old new
 
--- the line of a store that failed, or of one that found no memory
-abbrev pub IsCutLine : List ℕ → Type 0
-IsCutLine line = (line ≡ unwritten_line) ⊎ (line ≡ no_memory_line)
+-- a say failed, with 12, or found no memory, with 21
+abbrev pub IsCutSay : (Place → ℕ) → (Place → ℕ) → ℕ → Type 0
+IsCutSay old new status = ((status ≡ 12) × Rose (old output) (new output)) ⊎ (status ≡ 21)
 
--- how the delivery of an outcome ended, by the status that was answered
-pub data Delivers (o : Outcome) (before after : Contents) : ℕ → Type 0 where
-  whole : (between : Contents) → StoresAll o.stores before between → Says o.says between after → Delivers o before after o.status
-  unsaid : (status : ℕ) (between : Contents) → IsCut status → StoresAll o.stores before between → SaysPrefix o.says between after → Delivers o before after status
-  unstored : (status : ℕ) (line : List ℕ) (between : Contents) → IsCut status → IsCutLine line → StoresPart o.stores before between → SaysPrefix line between after → Delivers o before after status
+-- how the delivery of an outcome ended, by the status that was answered; `old` and `new` are the counts of faults. Where a store failed
+-- its line was said, with 12, and where one found no memory the line of that, with 21; or a prefix of it, where that say failed in turn
+pub data Delivers (o : Outcome) (old new : Place → ℕ) (before after : Contents) : ℕ → Type 0 where
+  whole : (between : Contents) → StoresAll o.stores before between → Says o.says between after → Delivers o old new before after o.status
+  unsaid : (status : ℕ) (between : Contents) → IsCutSay old new status → StoresAll o.stores before between → SaysPrefix o.says between after → Delivers o old new before after status
+  unstored : (between : Contents) → SomeStoreRose o.stores old new → StoresPart o.stores before between → Says unwritten_line between after → Delivers o old new before after 12
+  unstored_unsaid : (status : ℕ) (between : Contents) → IsCutSay old new status → SomeStoreRose o.stores old new → StoresPart o.stores before between → SaysPrefix unwritten_line between after → Delivers o old new before after status
+  no_room : (between : Contents) → StoresPart o.stores before between → Says no_memory_line between after → Delivers o old new before after 21
+  no_room_unsaid : (status : ℕ) (between : Contents) → IsCutSay old new status → StoresPart o.stores before between → SaysPrefix no_memory_line between after → Delivers o old new before after status
 
 -- ---- the whole course of a call
 -- the words are not plain, or a number of theirs is out of its range: then no memory is asked for
@@ -88,5 +93,5 @@ NeedsNoMemory words = (IsPlain words → ⊥) ⊎ ((r : Asked) × Asks words r �
 -- what was due was delivered with this status; where no memory is asked for and the say found none, the status stays and a
 -- prefix was said
 pub data Runs (answers : Asked → List (List ℕ) → Outcome → Type 0) (words : List (List ℕ)) (old new : Place → ℕ) (before after : Contents) : ℕ → Type 0 where
-  delivered : (o : Outcome) (status : ℕ) → IsDue answers words old new before o → Delivers o before after status → Runs answers words old new before after status
+  delivered : (o : Outcome) (status : ℕ) → IsDue answers words old new before o → Delivers o old new before after status → Runs answers words old new before after status
   cut_short : (o : Outcome) → NeedsNoMemory words → (o.status ≡ 10) ⊎ (o.status ≡ 24) → IsDue answers words old new before o → SaysPrefix o.says before after → Runs answers words old new before after o.status

@@ -1,6 +1,6 @@
 -- What stores and says leave, call by call.
-use Rattle.std.specs.Prelude.{◌≡◌, ◌⊎◌, ℕ, List, [], ◌∷◌, string_bytes, Option}
-use Rattle.emp_desk.specs.Desk.{Place, stores, output, Contents, Told, Says, SaysPrefix, Rose}
+use Rattle.std.specs.Prelude.{◌≡◌, ◌⊎◌, ℕ, List, string_bytes, Option}
+use Rattle.emp_desk.specs.Desk.{Place, output, Contents, Told, Says, SaysPrefix, Rose}
 use Rattle.emp_command.specs.declared.delivery.Stored.{Stored}
 use Rattle.emp_command.specs.Course.{Outcome}
 
@@ -9,11 +9,6 @@ stored_of s = (string_bytes s.name, s.bytes.items)
 
 abbrev pub outcome_of : ℕ → List (List ℕ × List ℕ) → List ℕ → Outcome
 outcome_of status files text = record { status = status; stores = files; says = text }
-
--- the count of the stores of one of the files rose
-abbrev pub SomeStoreRose : List (List ℕ × List ℕ) → (Place → ℕ) → (Place → ℕ) → Type 0
-SomeStoreRose [] f0 f1 = ⊥
-SomeStoreRose (s ∷ ss) f0 f1 = Rose (f0 (stores s.0)) (f1 (stores s.0)) ⊎ SomeStoreRose ss f0 f1
 
 -- the text was said whole with this status, or the say failed, or it found no memory
 abbrev pub SayEnds : ℕ → List ℕ → (Place → ℕ) → (Place → ℕ) → Option Contents → Option Contents → ℕ → Type 0

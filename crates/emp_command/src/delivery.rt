@@ -2,9 +2,9 @@
 ghost use Rattle.std.specs.Prelude.{◌≡◌, ◌≢◌, ◌⊎◌, map, IfErr, OnOk, OnErr};
 ghost use Rattle.emp_desk.specs.Desk.{Told, NoneFalls, Rose, output, SaysPrefix};
 ghost use Rattle.emp_desk.specs.declared.desk.StoreFault.TheVariants.{Failed};
-ghost use Rattle.emp_command.specs.Course.{StoresAll, StoresPart, Delivers};
+ghost use Rattle.emp_command.specs.Course.{StoresAll, StoresPart, SomeStoreRose, Delivers};
 ghost use Rattle.emp_command.specs.Refusals.{line_of, status_of};
-ghost use Rattle.emp_command.specs.Deliveries.{stored_of, outcome_of, SomeStoreRose, SayEnds};
+ghost use Rattle.emp_command.specs.Deliveries.{stored_of, outcome_of, SayEnds};
 
 use crate::refusal::Refusal;
 use emp_desk::desk::{Desk, StoreFault};
@@ -51,7 +51,7 @@ fn say<D: Desk>(desk: &mut D, text: &[u8], status: u8) -> u8
 /// Where a store or the say fails the answer is 12, or 21 for want of memory. A file that failed holds a prefix of its bytes, and the
 /// line that says so, or a prefix of it, was said in place of the text.
 pub fn deliver<D: Desk>(files: &[Stored], text: &[u8], status: u8, desk: &mut D) -> u8
-    ensures told { Told (λ before after. Delivers (outcome_of status (map stored_of files.now) text.now) before after result) (D.tells desk.old) (D.tells desk.new) }
+    ensures told { Told (λ before after. Delivers (outcome_of status (map stored_of files.now) text.now) (D.faults desk.old) (D.faults desk.new) before after result) (D.tells desk.old) (D.tells desk.new) }
     ensures cause { (result ≡ status) ⊎ ((result ≡ 21) ⊎ ((result ≡ 12) × (SomeStoreRose (map stored_of files.now) (D.faults desk.old) (D.faults desk.new) ⊎ Rose (D.faults desk.old output) (D.faults desk.new output)))) }
     ensures none_falls { NoneFalls (D.faults desk.old) (D.faults desk.new) }
 {

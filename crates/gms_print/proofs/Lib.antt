@@ -25,3 +25,4 @@ pub mod Soundness
 pub mod Tables
 pub mod Taking
 pub mod Whole
+pub mod OneText
