@@ -159,6 +159,3 @@ impl Model {
         })
     }
 }
-
-/// One fraction per variable of a model, in order of declaration.
-pub type GamsPoint = Seq<Frac>;

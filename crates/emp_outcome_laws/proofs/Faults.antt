@@ -28,8 +28,9 @@ use Rattle.emp_solution.specs.Stated.{StateGives, HasUnfit, HasUnmade}
 use Rattle.emp_unique.proofs.Problems.{one_problem}
 use Rattle.emp_unique.proofs.Folds.{one_test}
 use Rattle.emp_unique.proofs.Systems.{one_system}
+use Rattle.emp_unique.proofs.States.{no_poly}
 use Rattle.emp_outcome_laws.specs.Laws.{OneFault}
-use Rattle.emp_outcome_laws.proofs.Trees.{one_poly, no_poly}
+use Rattle.emp_outcome_laws.proofs.Trees.{one_poly}
 
 -- ---- the first pair with a coefficient
 no_square : (f : Form) (u v : ℕ) → IsLinear f → IsFirstSquare f u v → ⊥

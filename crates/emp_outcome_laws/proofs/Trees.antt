@@ -1,8 +1,8 @@
--- The first tree of a file with a fault has one fault, and there is none where all trees are expanded.
+-- The first tree of a file with a fault has one fault.
 use Rattle.std.proofs.Common.{◌≡◌, ◌≢◌, ◌⊎◌, inl, inr, ℕ, ◌<◌, Err, refl, sym, ap, subst, ◌∙◌}
 use Rattle.std.specs.Prelude.{slice_get}
 use Rattle.std.proofs.lemmas.Bool.{cases_order}
-use Rattle.std.proofs.lemmas.Option.{same_Some, slice_get_within}
+use Rattle.std.proofs.lemmas.Option.{same_Some}
 use Rattle.emp_ast.specs.declared.tree.Place.{Place}
 use Rattle.emp_ast.specs.declared.tree.Tree.{Tree}
 use Rattle.emp_ast.specs.declared.model.Equation.{Equation}
@@ -14,7 +14,7 @@ use Rattle.emp_form.proofs.OneFault.{one_fault}
 use Rattle.emp_poly.specs.declared.tree.PolyFault.{PolyFault}
 use Rattle.emp_poly.specs.declared.tree.PolyFault.TheVariants.{Degree, DivideByVariable, DivideByZero, Wide, NoMemory}
 use Rattle.emp_poly.specs.Trees.{IsFirst, FromTreeGives}
-use Rattle.emp_subst.specs.Subst.{IsExpanded, AllExpand, IsFirstFault, PolyGives}
+use Rattle.emp_subst.specs.Subst.{IsExpanded, IsFirstFault, PolyGives}
 
 -- ---- one root
 abbrev HasFault : PolyFault → Expression → Type 0
@@ -123,9 +123,3 @@ first_fault m NoMemory h = absurd h
 
 pub one_poly : (m : Model) (f g : PolyFault) → PolyGives m f → PolyGives m g → f ≡ g
 one_poly m f g h k = firsts_same m f g (poly_named m f h) (poly_named m g k) (first_fault m f h) (first_fault m g k)
-
--- where all trees are expanded none has a fault
-pub no_poly : (m : Model) (f : PolyFault) → AllExpand m → PolyGives m f → ⊥
-no_poly m f all h =
-    let x = first_fault m f h in
-    both_none x.equation f (poly_named m f h) (all x.at x.equation (slice_get_within m.equations x.at x.equation x.is) x.is) x.fault

@@ -37,7 +37,7 @@ one_state m a s t h k =
     let e = one_problem m a s.problem t.problem h.class h.problem k.problem in
     stated_eq s t e (systems_same t.problem s.system t.system (subst (λ (pr : AgentProblem). KktGives pr (Ok s.system)) e h.rows) k.rows)
 
--- ---- no fault of a tree
+-- ---- no fault of a tree, where all trees are expanded
 first_none : (m : Model) (f : PolyFault) → AllExpand m → ((t : Tree) → IsExpanded t → FromTreeGives t (Err f) → ⊥) → IsFirstFault m f → ⊥
 first_none m f all sound x = go x.fault
   where
@@ -48,7 +48,7 @@ first_none m f all sound x = go x.fault
     go (inl l) = sound x.equation.left both.0 l
     go (inr r) = sound x.equation.right both.1 r.1
 
-no_poly : (m : Model) (f : PolyFault) → AllExpand m → PolyGives m f → ⊥
+pub no_poly : (m : Model) (f : PolyFault) → AllExpand m → PolyGives m f → ⊥
 no_poly m PolyWords.NoMemory all x = x
 no_poly m (PolyWords.Degree p) all x = first_none m (PolyWords.Degree p) all (λ t e y. (one_fault (expression_at t.nodes y.at)).degree y.fault (e.1.free y.at y.within).0) x
 no_poly m (PolyWords.DivideByVariable p) all x =
