@@ -1,5 +1,5 @@
 use Rattle.std.proofs.Common.{length, ◌-◌, ◌≤◌}
-use Rattle.emp.proofs.file_desk.write_whole.Given as goal
+use Rattle.emp_file_desk.proofs.file_desk.write_whole.Given as goal
 
 abbrev pub invariant-loop-at : goal.invariant-loop-at
 invariant-loop-at g l = l.at ≤ length l.bytes

@@ -1,5 +1,5 @@
 use Rattle.std.proofs.Common.{◌≤◌, vec_len}
-use Rattle.emp.proofs.file_desk.read_first.Given as goal
+use Rattle.emp_file_desk.proofs.file_desk.read_first.Given as goal
 
 abbrev pub invariant-loop : goal.invariant-loop
 invariant-loop g l = vec_len l.bytes ≤ l.most

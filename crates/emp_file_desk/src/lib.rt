@@ -1,0 +1,4 @@
+//! The desk of real files, which the program works on.
+#![tactic(auto)]
+
+pub mod file_desk;
