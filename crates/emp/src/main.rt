@@ -1,13 +1,8 @@
 //! The program: hands its words and the desk of real files to the call `run`.
 #![tactic(auto)]
 
-mod file_desk;
-#[cfg(test)]
-mod file_run;
-mod streams;
-
 use emp_engine::run::run;
-use file_desk::FileDesk;
+use emp_file_desk::file_desk::FileDesk;
 use std::process::ExitCode;
 use std::{env, io};
 

@@ -1,20 +1,12 @@
-//! One call over a desk in memory, and what it changed.
-use crate::shelf::{File, put, text_of};
+//! One call, over a desk in memory or over files of the system, and what it changed.
+use crate::shelf::{File, has, put};
 use crate::shown::push_shown;
+use emp_desk::desk::Desk;
 use emp_desk::memory_desk::MemoryDesk;
 use emp_engine::run::run;
+use emp_file_desk::file_desk::FileDesk;
 use std::alloc::{AllocError, Global};
-
-// A desk that keeps the files.
-fn desk_of(alloc: Global, files: &[File]) -> Result<MemoryDesk, AllocError> {
-    let mut desk = MemoryDesk::new(alloc);
-    for file in files {
-        if desk.put(file.name.as_str(), file.text.as_bytes()).is_err() {
-            return Err(AllocError);
-        }
-    }
-    Ok(desk)
-}
+use std::{fs, io};
 
 /// The words of a line, which stand apart by one space.
 pub fn words_of(alloc: Global, line: &str) -> Result<Vec<String>, AllocError> {
@@ -27,18 +19,12 @@ pub fn words_of(alloc: Global, line: &str) -> Result<Vec<String>, AllocError> {
     Ok(words)
 }
 
-// Adds a name that is not yet there.
-fn push_name(names: &mut Vec<String>, name: String) -> Result<(), AllocError> {
-    if !names.iter().any(|other| other.as_str() == name.as_str()) {
-        names.push(name)?;
-    }
-    Ok(())
-}
-
 // Adds the names of the files that a word may name: its own, and those that `make` stores.
 fn push_names(alloc: Global, names: &mut Vec<String>, word: &str) -> Result<(), AllocError> {
     for end in ["", ".gms", ".info"] {
-        push_name(names, format!(in alloc; "{word}{end}")?)?;
+        let mut name = String::from_str(alloc, word)?;
+        name.push_str(end)?;
+        names.push(name)?;
     }
     Ok(())
 }
@@ -55,29 +41,41 @@ fn names_of(alloc: Global, files: &[File], words: &[String]) -> Result<Vec<Strin
     Ok(names)
 }
 
-// Shows the file of that name where the call changed it, and keeps it.
+// Shows the file of that name where it is not what it was, and keeps it.
 fn push_change(
     alloc: Global,
     to: &mut String,
-    desk: &MemoryDesk,
     before: &[File],
     after: &mut Vec<File>,
     name: &str,
+    bytes: &[u8],
 ) -> Result<(), AllocError> {
-    let Some(bytes) = desk.file(name) else {
-        return Ok(());
-    };
-    if text_of(before, name).is_some_and(|text| text.as_bytes() == bytes) {
+    if has(before, name, bytes) || has(after.as_slice(), name, bytes) {
         return Ok(());
     }
     let text = String::from_utf8_lossy(alloc, bytes)?;
-    write!(to, "> {name}:")?;
+    to.push_str("> ")?;
+    to.push_str(name)?;
+    to.push_str(":")?;
     push_shown(to, before, text.as_str())?;
     put(alloc, after, name, text)
 }
 
-/// Runs the words of a line over a desk with the files, and shows the status, what was said, and each file that is not
-/// what it was. The files of `after` become these.
+// Stores the files on the desk.
+fn store_all<D: Desk>(desk: &mut D, files: &[File]) -> Result<(), AllocError> {
+    for file in files {
+        if desk
+            .store(file.name.as_str(), file.text.as_bytes())
+            .is_err()
+        {
+            return Err(AllocError);
+        }
+    }
+    Ok(())
+}
+
+/// Runs the words of a line over a desk in memory with the files, and shows the status, what was said, and each file
+/// that is not what it was. The files of `after` become these.
 pub fn push_call(
     alloc: Global,
     to: &mut String,
@@ -86,13 +84,38 @@ pub fn push_call(
     after: &mut Vec<File>,
 ) -> Result<(), AllocError> {
     let words = words_of(alloc, line)?;
-    let mut desk = desk_of(alloc, before)?;
+    let mut desk = MemoryDesk::new(alloc);
+    store_all(&mut desk, before)?;
     let status = run(alloc, words.as_slice(), &mut desk);
     write!(to, "{status}")?;
     let said = String::from_utf8_lossy(alloc, desk.output())?;
     push_shown(to, before, said.as_str())?;
     for name in names_of(alloc, before, words.as_slice())? {
-        push_change(alloc, to, &desk, before, after, name.as_str())?;
+        if let Some(bytes) = desk.file(name.as_str()) {
+            push_change(alloc, to, before, after, name.as_str(), bytes)?;
+        }
+    }
+    Ok(())
+}
+
+/// The same over files of the system. What is said goes out, and the status and the files are shown.
+pub fn push_system_call(
+    rt: &HostRuntime,
+    to: &mut String,
+    line: &str,
+    before: &[File],
+    after: &mut Vec<File>,
+) -> io::Result<()> {
+    let alloc = rt.alloc();
+    let words = words_of(alloc, line)?;
+    let mut desk = FileDesk::new(rt.clone()?);
+    store_all(&mut desk, before)?;
+    let status = run(alloc, words.as_slice(), &mut desk);
+    writeln!(to, "{status}")?;
+    for name in names_of(alloc, before, words.as_slice())? {
+        if let Ok(text) = fs::read_to_string(rt, name.as_str()) {
+            push_change(alloc, to, before, after, name.as_str(), text.as_bytes())?;
+        }
     }
     Ok(())
 }

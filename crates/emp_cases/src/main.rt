@@ -1,4 +1,4 @@
-//! Cases: calls of `run` over desks in memory, read from tables, and what each answered, said and stored.
+//! Cases: calls of `run`, read from tables, and what each answered, said and stored.
 //!
 //! `stdin` names the tables, one a line. They stand in `data/` with the files that they take, and `docs/CASES.md` says how they are written.
 #![tactic(auto)]
@@ -9,24 +9,22 @@ mod shelf;
 mod shown;
 mod table;
 
-use std::alloc::Global;
 use std::{fs, io};
 use table::Table;
 
-/// What the table of that name shows.
-fn shown_of(rt: &HostRuntime, alloc: Global, name: &str) -> io::Result<String> {
+/// Goes through the table of that name.
+fn show(rt: &HostRuntime, name: &str) -> io::Result<()> {
     let text = fs::read_to_string(rt, name)?;
-    let mut table = Table::new(alloc);
+    let mut table = Table::new(rt.alloc());
     for line in text.lines() {
         table.take(rt, line)?;
     }
-    Ok(table.shown)
+    table.show_all(rt)
 }
 
 fn main(rt: HostRuntime) -> io::Result<()> {
     for name in rt.lines(rt.alloc()) {
-        let shown = shown_of(&rt, rt.alloc(), name?.as_str())?;
-        print!(rt; "{shown}")?;
+        show(&rt, name?.as_str())?;
     }
     Ok(())
 }

@@ -1,5 +1,5 @@
 //! The files of a table.
-use crate::holes::push_filled;
+use crate::holes::{push_filled, push_read};
 use std::alloc::{AllocError, Global};
 
 /// A file: its name, and its text, in which holes may stand.
@@ -9,14 +9,19 @@ pub struct File {
     pub text: String,
 }
 
-/// Makes the file that text, be it there or new, and the last of the files.
+/// Makes the file that text, be it there or new.
 pub fn put(
     alloc: Global,
     files: &mut Vec<File>,
     name: &str,
     text: String,
 ) -> Result<(), AllocError> {
-    files.retain(|file| file.name.as_str() != name);
+    for file in files.iter_mut() {
+        if file.name.as_str() == name {
+            file.text = text;
+            return Ok(());
+        }
+    }
     let name = String::from_str(alloc, name)?;
     files.push(File { name, text })?;
     Ok(())
@@ -32,12 +37,23 @@ pub fn text_of<'a>(files: &'a [File], name: &str) -> Option<&'a str> {
     None
 }
 
-/// Adds to the text of the last file.
-pub fn push_to_last(files: &mut Vec<File>, text: &str) -> Result<(), AllocError> {
-    match files.last_mut() {
-        Some(file) => file.text.push_str(text),
-        None => Ok(()),
+/// Whether the file of that name has these bytes.
+pub fn has(files: &[File], name: &str, bytes: &[u8]) -> bool {
+    match text_of(files, name) {
+        Some(text) => text.as_bytes() == bytes,
+        None => false,
     }
+}
+
+/// Adds a line to the text of the file of that name.
+pub fn push_line(files: &mut Vec<File>, name: &str, line: &str) -> Result<(), AllocError> {
+    for file in files.iter_mut() {
+        if file.name.as_str() == name {
+            push_read(&mut file.text, line)?;
+            return file.text.push_str("\n");
+        }
+    }
+    Ok(())
 }
 
 /// The files with the parts in their holes.

@@ -1,18 +1,21 @@
 //! A table, line by line.
-use crate::calls::{push_call, words_of};
+use crate::calls::{push_call, push_system_call, words_of};
 use crate::holes::{push_filled, push_read};
-use crate::shelf::{File, filled, push_to_last, put, text_of};
+use crate::shelf::{File, filled, push_line, put, text_of};
 use std::alloc::{AllocError, Global};
 use std::{fs, io};
 
-/// What a table has given so far: its files, the line of words with which its cases run, the words of which each fills
-/// `%0` in turn, and what is shown.
+/// What a table has given so far: its files and the name of that to which lines are added, the line of words with which
+/// its cases run, the words of which each fills `%0` in turn, whether calls go over files of the system, and what is shown
+/// and has not gone out.
 #[derive(Drop)]
 pub struct Table {
     files: Vec<File>,
+    last: String,
+    is_system: bool,
     call: String,
-    each: Vec<String>,
-    pub shown: String,
+    each: String,
+    shown: String,
 }
 
 // Adds a part of a case, without the spaces round it and with its signs read.
@@ -42,33 +45,15 @@ fn padded(alloc: Global, text: &str, size: usize) -> Result<String, AllocError> 
     Ok(padded)
 }
 
-// Runs the words with the parts of a case in their holes, and in those of the files, and shows what comes of it.
-fn push_case(
-    alloc: Global,
-    to: &mut String,
-    files: &mut Vec<File>,
-    call: &str,
-    word: &str,
-    text: &str,
-) -> Result<(), AllocError> {
-    let parts = parts_of(alloc, word, text)?;
-    let before = filled(alloc, files.as_slice(), parts.as_slice())?;
-    let mut line = String::new(alloc);
-    push_filled(&mut line, call, parts.as_slice())?;
-    if !word.is_empty() {
-        to.push_str(word)?;
-        to.push_str(": ")?;
-    }
-    push_call(alloc, to, line.as_str(), before.as_slice(), files)
-}
-
 impl Table {
     /// A table of no lines.
     pub fn new(alloc: Global) -> Table {
         Table {
             files: Vec::new(alloc),
+            last: String::new(alloc),
+            is_system: false,
             call: String::new(alloc),
-            each: Vec::new(alloc),
+            each: String::new(alloc),
             shown: String::new(alloc),
         }
     }
@@ -76,19 +61,20 @@ impl Table {
     /// Takes the next line.
     pub fn take(&mut self, rt: &HostRuntime, line: &str) -> io::Result<()> {
         if let Some(text) = line.strip_prefix("  ") {
-            return self.take_text(rt.alloc(), text);
+            push_line(&mut self.files, self.last.as_str(), text)?;
+            return Ok(());
         }
         let (word, rest) = line.split_once(' ').unwrap_or((line, ""));
         match word {
             "" => Ok(()),
-            "#" => self.show_line(line),
-            "-" => self.take_case(rt.alloc(), line, rest),
+            "-" => self.take_case(rt, line, rest),
             "file" => self.take_file(rt.alloc(), rest),
             "take" => self.take_files(rt, rest),
             "pad" => self.take_size(rt.alloc(), rest),
             "call" => self.take_call(rt.alloc(), rest),
             "each" => self.take_each(rt.alloc(), rest),
-            _ => self.show_unknown(line),
+            "system" => self.take_system(),
+            _ => self.show_line(line),
         }
     }
 
@@ -98,26 +84,13 @@ impl Table {
         Ok(())
     }
 
-    fn show_unknown(&mut self, line: &str) -> io::Result<()> {
-        self.shown.push_str("? ")?;
-        self.show_line(line)
-    }
-
-    // A line of the text of the file that was put last.
-    fn take_text(&mut self, alloc: Global, text: &str) -> io::Result<()> {
-        let mut read = String::new(alloc);
-        push_read(&mut read, text)?;
-        read.push_str("\n")?;
-        push_to_last(&mut self.files, read.as_str())?;
-        Ok(())
-    }
-
     // A file: its name, and the text that stands in the same line.
     fn take_file(&mut self, alloc: Global, rest: &str) -> io::Result<()> {
         let (name, text) = rest.split_once(' ').unwrap_or((rest, ""));
         let mut read = String::new(alloc);
         push_read(&mut read, text)?;
         put(alloc, &mut self.files, name, read)?;
+        self.last = String::from_str(alloc, name)?;
         Ok(())
     }
 
@@ -146,32 +119,61 @@ impl Table {
     }
 
     fn take_each(&mut self, alloc: Global, rest: &str) -> io::Result<()> {
-        self.each = words_of(alloc, rest)?;
+        self.each = String::from_str(alloc, rest)?;
         Ok(())
     }
 
-    fn take_case(&mut self, alloc: Global, line: &str, text: &str) -> io::Result<()> {
+    fn take_system(&mut self) -> io::Result<()> {
+        self.is_system = true;
+        Ok(())
+    }
+
+    // A case: one call, or one for each word.
+    fn take_case(&mut self, rt: &HostRuntime, line: &str, text: &str) -> io::Result<()> {
         self.show_line(line)?;
         if self.each.is_empty() {
-            push_case(
-                alloc,
-                &mut self.shown,
-                &mut self.files,
-                self.call.as_str(),
-                "",
-                text,
-            )?;
+            return self.make_call(rt, "", text);
         }
-        for word in self.each.iter() {
-            push_case(
-                alloc,
-                &mut self.shown,
-                &mut self.files,
-                self.call.as_str(),
-                word.as_str(),
-                text,
-            )?;
+        for word in words_of(rt.alloc(), self.each.as_str())? {
+            self.shown.push_str(word.as_str())?;
+            self.shown.push_str(": ")?;
+            self.make_call(rt, word.as_str(), text)?;
         }
+        Ok(())
+    }
+
+    // The call with the parts in the holes of its words and of the files.
+    fn make_call(&mut self, rt: &HostRuntime, word: &str, text: &str) -> io::Result<()> {
+        let alloc = rt.alloc();
+        let parts = parts_of(alloc, word, text)?;
+        let before = filled(alloc, self.files.as_slice(), parts.as_slice())?;
+        let mut line = String::new(alloc);
+        push_filled(&mut line, self.call.as_str(), parts.as_slice())?;
+        if self.is_system {
+            self.show_all(rt)?;
+            return push_system_call(
+                rt,
+                &mut self.shown,
+                line.as_str(),
+                before.as_slice(),
+                &mut self.files,
+            );
+        }
+        push_call(
+            alloc,
+            &mut self.shown,
+            line.as_str(),
+            before.as_slice(),
+            &mut self.files,
+        )?;
+        Ok(())
+    }
+
+    /// Lets out what is shown and has not gone out.
+    pub fn show_all(&mut self, rt: &HostRuntime) -> io::Result<()> {
+        let shown = self.shown.as_str();
+        print!(rt; "{shown}")?;
+        self.shown = String::new(rt.alloc());
         Ok(())
     }
 }

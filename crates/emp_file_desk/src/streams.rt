@@ -1,6 +1,6 @@
 //! All bytes of a reader up to a limit, and all bytes to a writer.
 ghost use Rattle.std.specs.Prelude.{◌≤◌, IfOk, OnOk, OnErr, vec_len};
-ghost use Rattle.emp.specs.Streams.{IsFirst, TakesAll, TakesPrefix};
+ghost use Rattle.emp_file_desk.specs.Streams.{IsFirst, TakesAll, TakesPrefix};
 
 use emp_desk::desk::LoadFault;
 use std::alloc::Global;

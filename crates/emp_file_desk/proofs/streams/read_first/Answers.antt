@@ -2,8 +2,8 @@ use Rattle.std.proofs.Common.{ℕ, ◌≡◌, ◌≤◌, List, ◌++◌, Option,
 use Rattle.std.proofs.lemmas.List.{take_rest}
 use Rattle.std.specs.Io.KnownBytes.{Consumes}
 use lib.Seq.{take-append_seam}
-use Rattle.emp.specs.Streams.{IsFirst}
-use Rattle.emp.proofs.streams.read_first.Goals as goal
+use Rattle.emp_file_desk.specs.Streams.{IsFirst}
+use Rattle.emp_file_desk.proofs.streams.read_first.Goals as goal
 
 -- a reader that gave as many bytes gave the first of its bytes
 all_taken : (most : ℕ) (a b : Option (List ℕ)) (bytes : List ℕ) → Consumes a b bytes → length bytes ≡ most → IsFirst most a bytes

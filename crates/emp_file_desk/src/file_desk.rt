@@ -1,7 +1,7 @@
 //! The desk of real files and standard output: the one place where the program meets the system.
 //!
 //! No clause says which bytes a file holds or where they go, so this desk tells nothing of its files and its output. What it reads of
-//! an open file and writes to one is that of `streams`; that it opens the file of the name is tested and not proved.
+//! an open file and writes to one is that of `streams`; that it opens the file of the name is tried by cases and not proved.
 ghost use Rattle.std.specs.Prelude.{◌≡◌, ◌≢◌, ◌≤◌, ℕ, None, Ok, Err, IfOk, OnOk, OnErr, vec_len};
 ghost use Rattle.emp_desk.specs.Desk.{Place, Rose};
 
@@ -96,56 +96,5 @@ impl<R: Files + Print + Drop> Desk for FileDesk<R> {
                 Err(StoreFault::Failed)
             }
         }
-    }
-}
-
-#[cfg(test)]
-mod tests {
-    use super::*;
-
-    /// A text of so many bytes, in which neighbours differ.
-    fn text(alloc: Global, len: usize) -> Result<Vec<u8>, std::alloc::AllocError> {
-        let mut bytes = Vec::with_capacity(alloc, len)?;
-        for at in 0..len {
-            bytes.push((at % 251) as u8)?;
-        }
-        Ok(bytes)
-    }
-
-    /// The first `most` bytes, or all where there are fewer.
-    fn cut(bytes: &[u8], most: usize) -> &[u8] {
-        if most < bytes.len() {
-            &bytes[..most]
-        } else {
-            bytes
-        }
-    }
-
-    #[test]
-    fn file_desk(rt: HostRuntime) -> io::Result<()> {
-        let alloc = rt.alloc();
-        let mut desk = FileDesk::new(rt.clone()?);
-        let name = "file_desk.tmp";
-        for (len, cuts) in [(0usize, [0usize, 9]), (1, [0, 1]), (70000, [1, 65537])] {
-            let whole = text(alloc, len)?;
-            assert!(rt; desk.store(name, whole.as_slice()).is_ok(), "storing {len}");
-            let loaded = desk.load(alloc, name, 100000);
-            assert!(rt;
-                loaded.is_ok_and(|v| v.as_slice() == whole.as_slice()),
-                "loading {len}"
-            );
-            for most in cuts {
-                let part = desk.load(alloc, name, most);
-                let expected = cut(whole.as_slice(), most);
-                assert!(rt;
-                    part.is_ok_and(|v| v.as_slice() == expected),
-                    "{most} of {len}"
-                );
-            }
-        }
-        fs::remove_file(&rt, name)?;
-        assert!(rt; desk.load(alloc, name, 9) == Err(LoadFault::Failed));
-        assert!(rt; desk.say("said by the test\n".as_bytes()).is_ok());
-        Ok(())
     }
 }
