@@ -7,3 +7,4 @@ pub mod Multipliers
 pub mod Sharing
 pub mod Bilevel
 pub mod Rules
+pub mod Complementary
