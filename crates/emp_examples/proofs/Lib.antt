@@ -12,3 +12,4 @@ pub mod Rations
 pub mod Bilevel
 pub mod Convexity
 pub mod Rules
+pub mod Complementary

@@ -9,3 +9,4 @@ pub mod Multipliers
 pub mod Sharing
 pub mod Bilevel
 pub mod Rules
+pub mod Complementary

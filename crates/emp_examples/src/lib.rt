@@ -10,6 +10,7 @@ ghost use Rattle.emp_examples.specs.Parties.{ExamplesOfParties, ExamplesOfImplic
 ghost use Rattle.emp_examples.specs.Rivals.{ExamplesOfGivenValues, ExamplesOfRivals, ExamplesOfInequalities, ExamplesOfAgents};
 ghost use Rattle.emp_examples.specs.Multipliers.{ExamplesOfMultipliers, ExamplesOfSigns};
 ghost use Rattle.emp_examples.specs.Sharing.{ExamplesOfSharing, ExamplesOfRations};
+ghost use Rattle.emp_examples.specs.Complementary.{ExamplesOfComplementary, ExamplesOfTargets};
 ghost use Rattle.emp_examples.specs.Rules.{ExamplesOfRules};
 ghost use Rattle.emp_examples.specs.Bilevel.{ExamplesOfBilevel, ExamplesOfRays, ExamplesOfConvexity};
 
@@ -96,4 +97,14 @@ pub fn examples_of_convexity()
 /// The rules of ownership.
 pub fn examples_of_rules()
     ensures { ExamplesOfRules }
+{}
+
+/// Complementary points.
+pub fn examples_of_complementary()
+    ensures { ExamplesOfComplementary }
+{}
+
+/// The file in the place of a complementarity model, and the rules of matches.
+pub fn examples_of_targets()
+    ensures { ExamplesOfTargets }
 {}

@@ -105,10 +105,16 @@ module _ (kind : Kind) (text : List ℕ) where
   model_or m f g (of_grammar p e h) = wrong p g.statements h g.has
   model_or m f g (of_rules h) = ok_err m f (one_meaning kind text (Ok m) (Err f) g h)
 
+pub one_fault_of : (kind : Kind) (text : List ℕ) (f g : ModelFault) → HasFaultOf kind text f → HasFaultOf kind text g → f ≡ g
+one_fault_of kind text f g h k = same kind text f g (view kind text f h) (view kind text g k)
+
+pub model_not_fault : (kind : Kind) (text : List ℕ) (m : Model) (f : ModelFault) → GivesOf kind text (Ok m) → HasFaultOf kind text f → ⊥
+model_not_fault kind text m f g h = model_or kind text m f g (view kind text f h)
+
 pub one_model : OneModel
 one_model = record {
   some = model_or_fault Agents;
   one = λ text m n g h. ok_one m n (one_meaning Agents text (Ok m) (Ok n) g h);
-  one_fault = λ text f g h k. same Agents text f g (view Agents text f h) (view Agents text g k);
-  not_both = λ text m f g h. model_or Agents text m f g (view Agents text f h);
+  one_fault = one_fault_of Agents;
+  not_both = model_not_fault Agents;
 }

@@ -1,0 +1,5 @@
+use Rattle.emp_examples.proofs.Complementary.{examples_of_complementary as law}
+use Rattle.emp_examples.proofs.examples_of_complementary.Goals as goal
+
+pub returns : goal.returns
+returns c = law
