@@ -43,7 +43,7 @@ fault_named : (f : StateFault) → IsNamedFault f → f ≢ StateWords.NoMemory
 fault_named f n e = subst IsNamedFault e n
 
 module _ (m : Model) (a : Annot) where
-  one_refusal : (o p : Outcome) → Refuses m a o → Refuses m a p → o ≡ p
+  pub one_refusal : (o p : Outcome) → Refuses m a o → Refuses m a p → o ≡ p
   one_refusal o p (bad_owner f n b) (bad_owner g k c) = ap (λ (x : OwnFault). refusal 16 (own_line m x)) (one_broken m a f g n k b c)
   one_refusal o p (bad_owner f n b) (unstated g k kept c) = absurd (none_broken m a f n kept b)
   one_refusal o p (unstated f n kept b) (bad_owner g k c) = absurd (none_broken m a g k kept c)

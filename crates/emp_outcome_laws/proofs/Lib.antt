@@ -5,4 +5,6 @@ pub mod Dictionaries
 pub mod Founds
 pub mod Fillings
 pub mod Answering
+pub mod Checking
 pub mod Owning
+pub mod Images

@@ -1,0 +1,5 @@
+use Rattle.emp_outcome_laws.proofs.Checking as Checking
+use Rattle.emp_outcome_laws.proofs.laws.one_migration.Goals as goal
+
+pub returns : goal.returns
+returns c = Checking.one_migration
