@@ -1,5 +1,5 @@
 -- The test of an equation that defines an objective, and the sentence that it stands for.
-use Rattle.std.proofs.Common.{◌≡◌, ◌↔◌, ℕ, Bool, true, false, ◌&&◌, not, nat_eq, Option, Some, None, refl, sym, ap, ◌∙◌}
+use Rattle.std.proofs.Common.{◌≡◌, ℕ, Bool, true, false, ◌&&◌, not, nat_eq, Option, Some, None, refl, sym, ap, ◌∙◌}
 use Rattle.std.specs.Prelude.{slice_get}
 use Rattle.std.proofs.lemmas.Bool.{and_parts, and_from, false≢true, eqb-true, eq-eqb}
 use Rattle.emp_ast.specs.declared.model.Relation.{Relation}
@@ -12,7 +12,7 @@ use Rattle.emp_ast.specs.declared.model.Variable.{Variable}
 use Rattle.emp_ast.specs.declared.model.Model.{Model}
 use Rattle.emp_ast.specs.declared.annot.Annot.{Annot}
 use Rattle.emp_ast.specs.Occurrence.{occurrences, is_summand_of}
-use Rattle.emp_ast.specs.Parties.{Party, objective, is_open, has_no_bound, is_dual, is_implicit_equation, ties, is_equality, can_define, has_alone, defines_by, defines}
+use Rattle.emp_ast.specs.Parties.{Party, objective, is_open, has_no_bound, is_dual, is_implicit_equation, ties, is_equality, has_alone, defines_by, defines}
 use Rattle.emp_ast.specs.Defines.{DefinesObjective, DefinesIsSentence}
 
 none_true : (b : Bool) → not b ≡ true → b ≡ false

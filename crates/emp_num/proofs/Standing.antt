@@ -1,5 +1,5 @@
 -- The fraction that stands for a coordinate, read with a default.
-use Rattle.std.proofs.Common.{◌≡◌, ℕ, ◌<◌, ◌*ℤ◌, List, length, get_or, slice_get, Some, subst}
+use Rattle.std.proofs.Common.{◌≡◌, ℕ, ◌<◌, ◌*ℤ◌, List, length, get_or, subst}
 use Rattle.std.proofs.lemmas.Option.{slice_get_within, slice_get-get_or, get_or_from_slice_get}
 use Rattle.emp_algebra.specs.Vector.{cell}
 use Rattle.emp_num.specs.Ratio.{ratio, SameRatio}
