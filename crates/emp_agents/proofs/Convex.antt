@@ -23,7 +23,7 @@ use Rattle.emp_form.specs.Partial.{moved}
 use Rattle.emp_ldl.specs.Whole.{IsSemidefinite}
 use Rattle.emp_ldl.specs.Whole as Whole
 use Rattle.emp_ldl.specs.Form as Fractions
-use Rattle.emp_ldl.specs.Form.{IsMatrix, entries}
+use Rattle.emp_ldl.specs.Form.{entries}
 use Rattle.emp_ldl.specs.Laws.{Over}
 use Rattle.emp_ldl.specs.Convex.{ConvexGives}
 use Rattle.emp_ldl.specs.Shown.{ConvexSays}

@@ -1,7 +1,7 @@
 -- What is kept while a text is read.
 use Rattle.std.proofs.Common.{◌≡◌, ℕ, zero, suc, ◌+◌, ◌-◌, ◌<◌, ◌≤◌, Bool, ℤ, List, [], ◌∷◌, ◌++◌, length, drop, set, codes, arith, refl, sym, ap, ◌∙◌, append_assoc, append-nil, length-append, length-set, length-drop, All, subst}
 use Rattle.std.specs.List.{slice_range}
-use Rattle.std.proofs.lemmas.Int.{ints, to_z-of_z}
+use Rattle.std.proofs.lemmas.Int.{to_z-of_z}
 use Rattle.std.proofs.lemmas.List.{length-take-le}
 use Rattle.std.proofs.lemmas.List.Folds.{drop_split}
 use Rattle.std.proofs.lemmas.List.Elements.{All-nil, All-cons, All-append, All-set}

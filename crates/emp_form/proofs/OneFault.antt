@@ -1,5 +1,4 @@
 -- At one root no two of the faults come, and none where the root fits.
-use Rattle.std.proofs.Common.{◌≡◌}
 use Rattle.emp_ast.specs.declared.tree.Operator.{Operator}
 use Rattle.emp_ast.specs.declared.tree.Operator.TheVariants.{Plus, Minus, Times, Over}
 use Rattle.emp_ast.specs.Expression.{Expression, number, variable, negated, joined, power}

@@ -1,10 +1,10 @@
 -- The value of a form along a step.
-use Rattle.std.proofs.Common.{◌≡◌, ◌⊎◌, inl, inr, ℕ, zero, suc, ◌+◌, ◌<◌, ◌≤◌, ℤ, pos, ◌+ℤ◌, ◌-ℤ◌, ◌*ℤ◌, Bool, true, false, cond, [], ◌∷◌, arith, refl, sym, ap, ap₂, ◌∙◌}
+use Rattle.std.proofs.Common.{◌≡◌, ℕ, zero, suc, ◌+◌, ◌<◌, ℤ, pos, ◌+ℤ◌, ◌*ℤ◌, true, false, cond, [], ◌∷◌, arith, refl, sym, ap, ap₂, ◌∙◌}
 use Rattle.std.specs.Prelude.{nat_lt, nat_eq}
-use Rattle.emp_algebra.proofs.Ring.{var, lit, ◌⊕◌, ◌⊖◌, ◌⊗◌, by_ring}
-use Rattle.emp_form.specs.Form.{Form, sum_to, line, column, quadratic, top_at}
+use Rattle.emp_algebra.proofs.Ring.{var, lit, ◌⊕◌, ◌⊗◌, by_ring}
+use Rattle.emp_form.specs.Form.{Form, sum_to, line, quadratic, top_at}
 use Rattle.emp_form.specs.Partial.{second_at, partial_form, moved, StepExpands}
-use Rattle.emp_form.proofs.Lines.{sum_to-below, sum_to-plus, sum_to-scale, line-scale, quadratic-zero}
+use Rattle.emp_form.proofs.Lines.{sum_to-below, sum_to-plus, sum_to-scale, quadratic-zero}
 
 -- ---- second derivatives
 same_is : (i : ℕ) → nat_eq i i ≡ true

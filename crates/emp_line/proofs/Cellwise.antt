@@ -1,5 +1,5 @@
 -- What is done to each cell that is not 0 is done to the whole list.
-use Rattle.std.proofs.Common.{◌≡◌, ◌≢◌, ◌⊎◌, inl, inr, ℕ, zero, suc, ◌+◌, ◌-◌, ◌<◌, ◌≤◌, ◌^◌, ℤ, pos, negsuc, neg_ℤ, ◌+ℤ◌, ◌*ℤ◌, Bool, true, false, cond, List, [], ◌∷◌, ◌++◌, map, length, get_or, set, to_z-of_z, unsigned_abs, int_div, arith, refl, ap, sym, subst, ◌∙◌}
+use Rattle.std.proofs.Common.{◌≡◌, ◌≢◌, ◌⊎◌, inl, inr, ℕ, zero, suc, ◌+◌, ◌-◌, ◌<◌, ◌≤◌, ℤ, pos, ◌*ℤ◌, Bool, true, false, cond, List, [], ◌∷◌, ◌++◌, map, length, get_or, set, to_z-of_z, unsigned_abs, int_div, arith, refl, ap, sym, subst, ◌∙◌}
 use Prim.Native.Nat.{◌∣◌}
 use native.Mathlib.Nat.{dvd-zero}
 use Rattle.std.specs.Prelude.{nat_eq}

@@ -1,5 +1,5 @@
 -- The three numbers of a step that is not wide.
-use Rattle.std.proofs.Common.{◌≢◌, ℕ, ◌<◌, pos, neg_ℤ, length, set, cond, Option, Some, None, get_or-set_same, get_or-set_other, length-set, Result, Ok, Err, MatchResult, sym, ap, subst, ◌∙◌, refl, ◌≡◌, ℤ, ◌+ℤ◌, ◌*ℤ◌, Bool, true, false, ◌||◌, to_z-of_z, arith}
+use Rattle.std.proofs.Common.{◌≢◌, ℕ, pos, set, cond, Some, None, Result, Ok, Err, MatchResult, sym, ap, subst, ◌∙◌, ◌≡◌, ℤ, ◌+ℤ◌, ◌*ℤ◌, false, ◌||◌, to_z-of_z, arith}
 use Rattle.std.proofs.lemmas.Int.{ints}
 use mir.Syntax.{w128}
 use mir.Val.{SFits}

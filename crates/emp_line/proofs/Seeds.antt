@@ -1,5 +1,5 @@
 -- The divisor of a line begun with its denominator and one of its cells.
-use Rattle.std.proofs.Common.{◌≡◌, ℕ, zero, suc, ◌+◌, ◌<◌, ◌^◌, ◌≤◌, ℤ, pos, ◌*ℤ◌, ◌<ℤ◌, List, [], ◌∷◌, length, get_or, unsigned_abs, int_div, arith, refl, sym, ap, subst, ◌∙◌, drop, to_z-of_z}
+use Rattle.std.proofs.Common.{◌≡◌, ℕ, zero, ◌+◌, ◌<◌, ◌^◌, ◌≤◌, ℤ, pos, ◌*ℤ◌, List, [], ◌∷◌, length, get_or, unsigned_abs, int_div, refl, sym, ap, subst, ◌∙◌, drop, to_z-of_z}
 use Prim.Native.Nat.{◌∣◌}
 use native.Mathlib.Nat.{eq-one_of_dvd-one, one-dvd}
 use lib.IntN.{*ℤ-one}

@@ -14,7 +14,7 @@ use Rattle.emp_ast.specs.Parties.{Party, leader, block, objective, owns, is_defi
 use Rattle.emp_ast.specs.Rivals.{Fits, IsDeviation}
 use Rattle.emp_ast.specs.Solved.{sides_gap}
 use Rattle.emp_form.specs.Expansion.{form}
-use Rattle.emp_game.specs.Game.{Row, Player, Ranges, range_at}
+use Rattle.emp_game.specs.Game.{Row, Player, Ranges}
 use Rattle.emp_game.specs.Game as TheGame
 use Rattle.emp_game.specs.Solved.{value_at, IsObeyed}
 use Rattle.emp_game.specs.Solved as Play

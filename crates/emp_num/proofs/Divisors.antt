@@ -1,5 +1,5 @@
 -- The greatest common divisor as a function is the greatest common divisor.
-use Rattle.std.proofs.Common.{ℕ, zero, suc, ◌+◌, ◌%◌, ◌<◌, ◌≤◌, ◌≡◌, ℤ, pos, List, [], ◌∷◌, drop, get_or, length, unsigned_abs, arith, refl, ap, sym, ◌∙◌, mod-lt, mod-eq_of_lt, zero-lt-suc, to_z-of_z}
+use Rattle.std.proofs.Common.{ℕ, zero, suc, ◌+◌, ◌%◌, ◌<◌, ◌≤◌, ◌≡◌, ℤ, pos, List, drop, get_or, length, unsigned_abs, arith, refl, ap, sym, mod-lt, mod-eq_of_lt, zero-lt-suc, to_z-of_z}
 use Rattle.std.specs.Int.{IsGcd}
 use Rattle.std.proofs.lemmas.List.{drop_more, drop_all}
 use Rattle.std.proofs.lemmas.Nat.Gcd.{IsGcd-from_zero, IsGcd-from_mod, same_from_IsGcd}

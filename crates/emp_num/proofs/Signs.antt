@@ -1,5 +1,5 @@
 -- Signs: what a quotient and a negation rest on.
-use Rattle.std.proofs.Common.{◌≡◌, ◌≢◌, ◌⊎◌, inl, inr, ◌<◌, ℤ, pos, negsuc, neg_ℤ, ◌*ℤ◌, ◌<ℤ◌, Result, Ok, Err, unsigned_abs, arith, refl, sym, ap, ◌∙◌, subst, zero, suc, to_z-of_z}
+use Rattle.std.proofs.Common.{◌≡◌, ◌≢◌, ◌<◌, ℤ, pos, neg_ℤ, ◌*ℤ◌, ◌<ℤ◌, Result, Ok, Err, unsigned_abs, arith, sym, ◌∙◌, subst, zero, to_z-of_z}
 use Rattle.std.proofs.lemmas.Int.{ints}
 use lib.IntN.{zero-*ℤ, *ℤ_comm}
 use Prim.Native.Nat.{◌∣◌}

@@ -1,12 +1,11 @@
 -- Before the root is opened the whole search is still to come.
-use Rattle.std.proofs.Common.{◌≡◌, ℕ, zero, suc, ◌-◌, List, [], length, get_or, replicate, None, Result, Ok, Err, arith, refl, sym, ap, subst, ◌∙◌}
+use Rattle.std.proofs.Common.{◌≡◌, ℕ, ◌-◌, List, [], length, None, Result, Ok, Err, arith, refl, sym, ap, subst, ◌∙◌}
 use Rattle.std.specs.Option.{option_map}
 use Rattle.emp_rows.specs.declared.system.RowSystem.{RowSystem}
 use Rattle.std.proofs.lemmas.List.Elements.{All-nil}
 use Rattle.emp_cert.specs.Certs.{NodeFits, VerdictFits}
 use Rattle.emp_cert.specs.Nodes.{AreTrees}
 use Rattle.emp_cert.proofs.Forests.{whole_tree}
-use Rattle.emp_dict.specs.declared.label.Mark.TheVariants.{Unasked}
 use Rattle.emp_dict.specs.Dictionary.{mark_at}
 use Rattle.emp_dict.specs.Dicts.{dictionary_of}
 use Rattle.emp_face.specs.Budgets.{units_left}

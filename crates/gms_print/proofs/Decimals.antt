@@ -1,5 +1,5 @@
 -- The digits of a rest over a denominator.
-use Rattle.std.proofs.Common.{◌≡◌, ◌≢◌, ℕ, zero, suc, ◌+◌, ◌-◌, ◌*◌, ◌/◌, ◌%◌, ◌^◌, ◌<◌, ◌≤◌, ℤ, pos, negsuc, ◌<ℤ◌, ◌≤ℤ◌, unsigned_abs, Bool, true, false, nat_eq, nat_lt, ◌&&◌, List, [], ◌∷◌, ◌++◌, length, All, codes, decimal, arith, refl, sym, ap, subst, ◌∙◌, append_assoc, append-nil, length-append, mod-lt, ne_eqb, to_z-of_z}
+use Rattle.std.proofs.Common.{◌≡◌, ◌≢◌, ℕ, zero, suc, ◌+◌, ◌-◌, ◌*◌, ◌/◌, ◌%◌, ◌^◌, ◌<◌, ◌≤◌, ℤ, pos, negsuc, ◌<ℤ◌, ◌≤ℤ◌, unsigned_abs, true, nat_lt, List, [], ◌∷◌, ◌++◌, length, All, codes, decimal, arith, refl, sym, ap, subst, ◌∙◌, append_assoc, append-nil, length-append, mod-lt, ne_eqb, to_z-of_z}
 use Prim.Native.Nat.{◌∣◌}
 use Rattle.std.proofs.Math.Nat.{div-add-mod, div-lt_iff_lt-mul, pow-suc, pow-le-pow_right, dvd-mul_right, dvd-mul_left_of_dvd, dvd-add_iff_right}
 use Rattle.std.proofs.lemmas.Nat.{pow-add}

@@ -1,6 +1,6 @@
 -- Writing in front of what stands in a text.
-use Rattle.std.proofs.Common.{◌≡◌, ℕ, zero, suc, ◌+◌, ◌-◌, ◌<◌, ◌≤◌, Bool, true, false, Option, Some, None, List, [], ◌∷◌, ◌++◌, length, take, drop, get_or, insert, codes, arith, refl, sym, ap, subst, ◌∙◌, append_assoc, append-nil, length-append, add-one, option_to_list}
-use Rattle.std.proofs.lemmas.List.{take-append-drop, take_more, drop_all, length-take-le}
+use Rattle.std.proofs.Common.{◌≡◌, ℕ, ◌+◌, ◌-◌, ◌<◌, ◌≤◌, Bool, true, false, List, [], ◌∷◌, ◌++◌, length, take, drop, get_or, insert, codes, arith, refl, sym, ap, ◌∙◌, append_assoc, length-append}
+use Rattle.std.proofs.lemmas.List.{take-append-drop, take_more, length-take-le}
 use Rattle.std.proofs.Math.Seq.{take-append_seam, drop-append_seam}
 use Rattle.gms_print.specs.declared.mark.Mark.{Mark}
 use Rattle.gms_print.specs.Canonical.{wrapped}

@@ -1,6 +1,6 @@
 -- From the nodes of a tree to the text of its expression.
-use Rattle.std.proofs.Common.{◌≡◌, ℕ, zero, suc, ◌+◌, ◌-◌, ◌<◌, ◌≤◌, Bool, true, false, not, ◌||◌, List, [], ◌∷◌, ◌++◌, map, length, take, drop, get_or, codes, decimal, arith, refl, sym, ap, subst, ◌∙◌, append_assoc, append-nil, length-append, slice_index_or}
-use Rattle.std.proofs.lemmas.List.{take-append-drop, take_more, drop_all, length-take-le, get_or-map}
+use Rattle.std.proofs.Common.{◌≡◌, ℕ, zero, suc, ◌+◌, ◌-◌, ◌<◌, ◌≤◌, Bool, true, false, not, List, [], ◌∷◌, ◌++◌, map, length, take, drop, get_or, codes, decimal, arith, refl, sym, ap, subst, ◌∙◌, append_assoc, append-nil, slice_index_or}
+use Rattle.std.proofs.lemmas.List.{take-append-drop, take_more, get_or-map}
 use Rattle.emp_ast.specs.declared.model.Variable.{Variable}
 use Rattle.emp_ast.specs.declared.tree.Operator.{Operator}
 use Rattle.emp_ast.specs.declared.tree.Operator.TheVariants.{Plus, Minus, Times, Over}

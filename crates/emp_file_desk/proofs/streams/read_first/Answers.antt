@@ -1,5 +1,4 @@
-use Rattle.std.proofs.Common.{ℕ, ◌≡◌, ◌≤◌, List, ◌++◌, Option, None, Some, arith, length, take, refl, sym, ap, ◌∙◌, IfSome}
-use Rattle.std.proofs.lemmas.List.{take_rest}
+use Rattle.std.proofs.Common.{ℕ, ◌≡◌, List, ◌++◌, Option, None, Some, arith, length, take, sym, ap, ◌∙◌}
 use Rattle.std.specs.Io.KnownBytes.{Consumes}
 use lib.Seq.{take-append_seam}
 use Rattle.emp_file_desk.specs.Streams.{IsFirst}
