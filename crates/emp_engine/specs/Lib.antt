@@ -1,4 +1,6 @@
 -- What the clauses of `run` say
 pub mod Run
+-- What is answered over texts is one outcome
+pub mod Laws
 -- What only helps proofs
 pub mod Ends
