@@ -3,13 +3,13 @@ use Rattle.std.proofs.Common.{◌≡◌, ◌≢◌, ℕ, ◌+◌, ◌≤◌, ◌
 use Rattle.std.proofs.lemmas.Bool.{false≢true}
 use Rattle.emp_desk.specs.Desk.{Place, Contents, Says}
 use Rattle.emp_command.specs.Words.{Asked, Asks, IsPlain}
-use Rattle.emp_command.specs.Course.{Outcome, limit_of, FilesFit, IsDue, bad_words, bad_work, bad_firms, unread, too_long, answered, no_memory, IsCut, Delivers, whole, unsaid, unstored, StoresAll, StoresPart, NeedsNoMemory, Runs, delivered, cut_short}
-use Rattle.emp_engine.specs.Run.{is_caused, IsAnswer, IsAnswered, IsReachable, NothingRose, KeepsOthers, written}
+use Rattle.emp_command.specs.Course.{Outcome, limit_of, FilesFit, IsDue, bad_words, bad_work, bad_firms, unread, too_long, answered, no_memory, IsCutSay, Delivers, whole, unsaid, unstored, unstored_unsaid, no_room, no_room_unsaid, StoresAll, StoresPart, NeedsNoMemory, Runs, delivered, cut_short}
+use Rattle.emp_engine.specs.Run.{is_caused, IsAnswer, IsAnswered, IsReachable, OrFails, KeepsOthers, written}
 use Rattle.emp_engine.proofs.Statuses.{named_by, AreNamed, answer_named}
 
-cut_not : (s : ℕ) → IsCut s → is_caused s ≡ true → ⊥
-cut_not s (inl e) ok = false≢true (ap is_caused (sym e) ∙ ok)
-cut_not s (inr e) ok = false≢true (ap is_caused (sym e) ∙ ok)
+cut_not : (f0 f1 : Place → ℕ) (s : ℕ) → IsCutSay f0 f1 s → is_caused s ≡ true → ⊥
+cut_not f0 f1 s (inl e) ok = false≢true (ap is_caused (sym e.0) ∙ ok)
+cut_not f0 f1 s (inr e) ok = false≢true (ap is_caused (sym e) ∙ ok)
 
 short_not : (s : ℕ) → (s ≡ 10) ⊎ (s ≡ 24) → is_caused s ≡ true → ⊥
 short_not s (inl e) ok = false≢true (ap is_caused (sym e) ∙ ok)
@@ -26,10 +26,13 @@ module _ (words : List (List ℕ)) (f0 f1 : Place → ℕ) (x y : Contents) wher
   by_due o b (answered r p a i fit ans) ok st sa = record { request = r; asked = a; range = i; outcome = p; answers = ans; is = refl; between = b; stored = st; said = sa }
   by_due o b (no_memory r a i) ok st sa = absurd (false≢true ok)
 
-  by_delivery : (o : Outcome) (s : ℕ) → IsDue IsAnswer words f0 f1 x o → Delivers o x y s → is_caused s ≡ true → IsAnswered words x y s
+  by_delivery : (o : Outcome) (s : ℕ) → IsDue IsAnswer words f0 f1 x o → Delivers o f0 f1 x y s → is_caused s ≡ true → IsAnswered words x y s
   by_delivery o s due (whole b st sa) ok = by_due o b due ok st sa
-  by_delivery o s due (unsaid t b c st sa) ok = absurd (cut_not t c ok)
-  by_delivery o s due (unstored t l b c i st sa) ok = absurd (cut_not t c ok)
+  by_delivery o s due (unsaid t b c st sa) ok = absurd (cut_not f0 f1 t c ok)
+  by_delivery o s due (unstored b r st sa) ok = absurd (false≢true ok)
+  by_delivery o s due (unstored_unsaid t b c r st sa) ok = absurd (cut_not f0 f1 t c ok)
+  by_delivery o s due (no_room b st sa) ok = absurd (false≢true ok)
+  by_delivery o s due (no_room_unsaid t b c st sa) ok = absurd (cut_not f0 f1 t c ok)
 
   pub answered_now : (end : ℕ) → is_caused end ≡ true → Runs IsAnswer words f0 f1 x y end → IsAnswered words x y end
   answered_now end ok (delivered o s due del) = by_delivery o s due del ok
@@ -40,32 +43,47 @@ module _ (words : List (List ℕ)) (f0 f1 : Place → ℕ) (x y : Contents) wher
   fit_at k [] name ls n e f = subst (λ j. length (x.holds name) ≤ limit_of j) (let g : k ≡ n = omega (arith, e) in g) f.0
   fit_at k (d ∷ es) name ls n e f = fit_at (k + 1) es name ls n (omega (arith, e)) f.1
 
-  module _ (quiet : NothingRose words f0 f1) (plain : IsPlain words) (reach : IsReachable words x) where
-    due_whole : (o : Outcome) (b : Contents) → IsDue IsAnswer words f0 f1 x o → StoresAll o.stores x b → Says o.says b y → (o.status ≡ 21) ⊎ IsAnswered words x y o.status
-    due_whole o b (bad_words h) st sa = absurd (h plain)
-    due_whole o b (bad_work r a h) st sa = absurd (h (reach r a).0.0)
-    due_whole o b (bad_firms r a v h) st sa = absurd (h ((reach r a).0.1 v))
-    due_whole o b (unread r k n a i c h) st sa = absurd (quiet.loaded (r, c.earlier, n, c.later, a, c.files, h))
-    due_whole o b (too_long r k n a i c h) st sa = absurd (omega (arith, h, fit_at 1 c.earlier n c.later k (omega (arith, c.number)) (subst (FilesFit x 1) c.files (reach r a).1)))
-    due_whole o b (answered r p a i fit ans) st sa = inr (record { request = r; asked = a; range = i; outcome = p; answers = ans; is = refl; between = b; stored = st; said = sa })
-    due_whole o b (no_memory r a i) st sa = inl refl
+  -- a file was not read, something was not written, memory was wanting, or what was answered was stored and said whole
+  abbrev pub Completed : ℕ → Type 0
+  Completed end = OrFails end (IsAnswered words x y end)
 
-    cut_whole : (end : ℕ) → end ≢ 12 → IsCut end → (end ≡ 21) ⊎ IsAnswered words x y end
-    cut_whole end n (inl e) = absurd (n e)
-    cut_whole end n (inr e) = inl e
+  module _ (plain : IsPlain words) (reach : IsReachable words x) where
+    due_completed : (o : Outcome) (b : Contents) → IsDue IsAnswer words f0 f1 x o → StoresAll o.stores x b → Says o.says b y → Completed o.status
+    due_completed o b (bad_words h) st sa = absurd (h plain)
+    due_completed o b (bad_work r a h) st sa = absurd (h (reach r a).0.0)
+    due_completed o b (bad_firms r a v h) st sa = absurd (h ((reach r a).0.1 v))
+    due_completed o b (unread r k n a i c h) st sa = inl refl
+    due_completed o b (too_long r k n a i c h) st sa = absurd (omega (arith, h, fit_at 1 c.earlier n c.later k (omega (arith, c.number)) (subst (FilesFit x 1) c.files (reach r a).1)))
+    due_completed o b (answered r p a i fit ans) st sa = inr (inr (inr (record { request = r; asked = a; range = i; outcome = p; answers = ans; is = refl; between = b; stored = st; said = sa })))
+    due_completed o b (no_memory r a i) st sa = inr (inr (inl refl))
+
+    cut_completed : (end : ℕ) → IsCutSay f0 f1 end → Completed end
+    cut_completed end (inl e) = inr (inl e.0)
+    cut_completed end (inr e) = inr (inr (inl e))
 
     no_need : NeedsNoMemory words → ⊥
     no_need (inl h) = h plain
     no_need (inr h) = h.2 (reach h.0 h.1).0
 
-    delivery_whole : (o : Outcome) (end : ℕ) → end ≢ 12 → IsDue IsAnswer words f0 f1 x o → Delivers o x y end → (end ≡ 21) ⊎ IsAnswered words x y end
-    delivery_whole o end n due (whole b st sa) = due_whole o b due st sa
-    delivery_whole o end n due (unsaid u b c st sa) = cut_whole end n c
-    delivery_whole o end n due (unstored u l b c i st sa) = cut_whole end n c
+    delivery_completed : (o : Outcome) (end : ℕ) → IsDue IsAnswer words f0 f1 x o → Delivers o f0 f1 x y end → Completed end
+    delivery_completed o end due (whole b st sa) = due_completed o b due st sa
+    delivery_completed o end due (unsaid u b c st sa) = cut_completed end c
+    delivery_completed o end due (unstored b r st sa) = inr (inl refl)
+    delivery_completed o end due (unstored_unsaid u b c r st sa) = cut_completed end c
+    delivery_completed o end due (no_room b st sa) = inr (inr (inl refl))
+    delivery_completed o end due (no_room_unsaid u b c st sa) = cut_completed end c
 
-    pub runs_whole : (end : ℕ) → end ≢ 12 → Runs IsAnswer words f0 f1 x y end → (end ≡ 21) ⊎ IsAnswered words x y end
-    runs_whole end n (delivered o u due del) = delivery_whole o u n due del
-    runs_whole end n (cut_short o need kind due sa) = absurd (no_need need)
+    pub runs_completed : (end : ℕ) → Runs IsAnswer words f0 f1 x y end → Completed end
+    runs_completed end (delivered o u due del) = delivery_completed o u due del
+    runs_completed end (cut_short o need kind due sa) = absurd (no_need need)
+
+    pub runs_whole : (end : ℕ) → end ≢ 11 → end ≢ 12 → Runs IsAnswer words f0 f1 x y end → (end ≡ 21) ⊎ IsAnswered words x y end
+    runs_whole end read said r = go (runs_completed end r)
+      where
+        go : Completed end → (end ≡ 21) ⊎ IsAnswered words x y end
+        go (inl e) = absurd (read e)
+        go (inr (inl e)) = absurd (said e)
+        go (inr (inr h)) = h
 
   -- ---- files that the words do not name to be written
   abbrev Spared : List ℕ → Type 0
@@ -99,10 +117,13 @@ module _ (words : List (List ℕ)) (f0 f1 : Place → ℕ) (x y : Contents) wher
       record { all = λ b st. stores_spare r p.stores x b name h (n r a) st; part = λ b st. part_spares r p.stores x b name h (n r a) st }
   due_writes o name n (no_memory r a i) = record { all = λ b st. st.files name; part = λ b st. absurd st }
 
-  delivery_spares : (o : Outcome) (s : ℕ) (name : List ℕ) → Writes o name → Delivers o x y s → y.holds name ≡ x.holds name
+  delivery_spares : (o : Outcome) (s : ℕ) (name : List ℕ) → Writes o name → Delivers o f0 f1 x y s → y.holds name ≡ x.holds name
   delivery_spares o s name w (whole b st sa) = sa.files name ∙ w.all b st
   delivery_spares o s name w (unsaid t b c st sa) = sa.files name ∙ w.all b st
-  delivery_spares o s name w (unstored t l b c i st sa) = sa.files name ∙ w.part b st
+  delivery_spares o s name w (unstored b r st sa) = sa.files name ∙ w.part b st
+  delivery_spares o s name w (unstored_unsaid t b c r st sa) = sa.files name ∙ w.part b st
+  delivery_spares o s name w (no_room b st sa) = sa.files name ∙ w.part b st
+  delivery_spares o s name w (no_room_unsaid t b c st sa) = sa.files name ∙ w.part b st
 
   pub keeps_others : (end : ℕ) → Runs IsAnswer words f0 f1 x y end → KeepsOthers words x y
   keeps_others end (delivered o s due del) = λ name n. delivery_spares o s name (due_writes o name n due) del

@@ -1,5 +1,5 @@
 -- What the other statuses say of the files.
-use Rattle.std.proofs.Common.{◌≡◌, ◌≢◌, ℕ, ◌<◌, inl, inr, Bool, true, false, cond, List, [], ◌∷◌, ◌++◌, map, Some, Err, arith, refl, sym, ap, subst, ◌∙◌}
+use Rattle.std.proofs.Common.{◌≡◌, ◌≢◌, ℕ, ◌<◌, inl, inr, List, [], ◌∷◌, ◌++◌, map, Some, Err, arith, refl, sym, ap, subst, ◌∙◌}
 use Rattle.emp_ast.specs.declared.model.Model.{Model}
 use Rattle.emp_ast.specs.declared.annot.Annot.{Annot}
 use Rattle.emp_desk.specs.Desk.{Contents}
@@ -24,14 +24,6 @@ use Rattle.emp_cert.specs.declared.cert.Cert.{Cert}
 use Rattle.emp_cert_text.specs.Text.{cert_text}
 use Rattle.emp_cert_text.specs.Upgrading.{IsUpgrade}
 use Rattle.emp_report.specs.CertLines.{accepted_line, migrated_line}
-use Rattle.emp_check.specs.Checks.{checked}
-use Rattle.emp_check.specs.declared.outcome.Checked.TheVariants.{Accepted, Rejected}
-use Rattle.emp_check.specs.declared.outcome.Why.{Why}
-use Rattle.emp_check.specs.declared.outcome.Why.TheVariants.{Sizes, Pairs}
-use Rattle.emp_check.specs.Checks.{sizes_fit, links_fit, verdict_checked}
-use Rattle.emp_check.proofs.Verdicts.{verdict_shown, verdict_fits}
-use Rattle.emp_rows.specs.declared.system.RowSystem.{RowSystem}
-use Rattle.emp_cert.specs.Verdicts.{VerdictShown}
 use Rattle.emp_share.specs.declared.share.ShareFault.TheVariants.{NotConvex as NotConvexFault}
 use Rattle.emp_share.specs.Laws.{IsNotConvex}
 use Rattle.emp_share.proofs.Files.{fault_tells}
@@ -43,6 +35,7 @@ use Rattle.emp_solution.specs.declared.state.StateFault.{StateFault}
 use Rattle.emp_solution.specs.declared.state.StateFault.TheVariants as StateWords
 use Rattle.emp_solution.specs.Stated.{StateGives}
 use Rattle.emp_solution.proofs.Tells.{stated_tells}
+use Rattle.emp_outcome_laws.proofs.Images.{accepted_passed, accepted_stands}
 use Rattle.emp_outcomes.specs.Outcomes.{state_status, state_line, Refuses, bad_owner, unstated, ReportOf, Solves, refused, unfinished, unfilled, too_long, answered, Unaccepted, no_rows, bad_text, rejected, wide_sum, IsAccepted, Checks, unaccepted, accepted, Migrates, unmigrated, migrated_long, migrated}
 use Rattle.emp_answers.specs.Answers.{Does, prints, solves, checks, migrates, Answers, unbuilt, bad_model, bad_info, done}
 use Rattle.emp_engine.specs.Run.{IsAnswer, over_texts, market, HasAccepted, ShowsAccepted, ShowsMigrated, SaysCanonical, ShowsModelFault, ShowsInfoFault, ShowsOwnFault, ShowsNotConvex, IsAnswered}
@@ -68,13 +61,13 @@ print_check e = cc
 pub migrate_check : Migrate ≡ Check → ⊥
 migrate_check e = cc
 
-solve_migrate : Solve ≡ Migrate → ⊥
+pub solve_migrate : Solve ≡ Migrate → ⊥
 solve_migrate e = cc
 
-print_migrate : Print ≡ Migrate → ⊥
+pub print_migrate : Print ≡ Migrate → ⊥
 print_migrate e = cc
 
-check_migrate : Check ≡ Migrate → ⊥
+pub check_migrate : Check ≡ Migrate → ⊥
 check_migrate e = cc
 
 -- ---- canonical texts
@@ -133,18 +126,6 @@ migrated_at m a r rest o (solves p v h) w z = absurd (solve_migrate (not_verbs r
 migrated_at m a r rest o (checks ct p v h) w z = absurd (check_migrate (not_verbs r.verb Check Migrate v w))
 migrated_at m a r rest o (migrates ct name p v n h) w z = migrates_stored m a r ct name p n h z
 
--- what is accepted is shown, and tells of the file what it tells
-rejected_not : (node : ℕ) (w : Why) → Rejected node w ≡ Accepted → ⊥
-rejected_not node w e = cc
-
-accepted_shown : (s : RowSystem) (c : Cert) → checked s c ≡ Accepted → VerdictShown s c.verdict
-accepted_shown s c e = go (sizes_fit s c) (links_fit s c.links) refl refl e
-  where
-    go : (b d : Bool) → sizes_fit s c ≡ b → links_fit s c.links ≡ d → cond b (cond d (verdict_checked s s.objective c.verdict) (Rejected 0 Pairs)) (Rejected 0 Sizes) ≡ Accepted → VerdictShown s c.verdict
-    go true true f g h = verdict_shown s s.objective c.verdict refl (verdict_fits s c f) h
-    go true false f g h = absurd (rejected_not 0 Pairs h)
-    go false d f g h = absurd (rejected_not 0 Sizes h)
-
 -- the third file of the words
 record Third (x : Contents) (fs : List (List ℕ)) (ct : List ℕ) : Type 0 where
   file : List ℕ
@@ -173,7 +154,8 @@ has_accepted words x r o d ct s c e h =
       cert = c;
       text = t.holds ∙ h.text;
       accepted = h.accepted;
-      tells = stated_tells d.model d.annot s c.verdict h.stated (accepted_shown s.system c h.accepted);
+      tells = stated_tells d.model d.annot s c.verdict h.stated (accepted_passed s.system c h.accepted).shown;
+      stands = accepted_stands d.model d.annot s c h.stated h.accepted;
     }
 
 -- ---- ownership and convexity

@@ -1,13 +1,12 @@
 -- How a call ends, from how its steps end.
 use Rattle.std.proofs.Common.{◌≡◌, ◌≢◌, ℕ, ◌+◌, ◌<◌, true, ◌⊎◌, inl, inr, List, [], ◌∷◌, ◌++◌, length, Option, Some, None, arith, refl, sym, ap, subst, ◌∙◌}
-use Rattle.emp_desk.specs.Desk.{Place, loads, output, Contents, Told, KeepsAll, SaysPrefix, Rose, NoneFalls}
+use Rattle.emp_desk.specs.Desk.{Place, loads, stores, output, Contents, Told, KeepsAll, SaysPrefix, Rose, NoneFalls}
 use Rattle.emp_command.specs.declared.refusal.Refusal.{Refusal}
 use Rattle.emp_command.specs.declared.refusal.Refusal.TheVariants.{BadWords, BadWork, BadFirms, Unread, TooLong, Unwritten, NoMemory}
 use Rattle.emp_command.specs.Lines.{bad_words_line, too_long_line}
 use Rattle.emp_command.specs.Words.{Asked, Asks, IsPlain, solve, check, print, make, migrate, pieces}
-use Rattle.emp_command.specs.Course.{Outcome, refusal, limit_of, IsInRange, FilesFit, IsReached, IsDue, bad_words, bad_work, bad_firms, unread, too_long, no_memory, StoresAll, StoresPart, Delivers, whole, unsaid, unstored, NeedsNoMemory, Runs, delivered, cut_short}
+use Rattle.emp_command.specs.Course.{Outcome, refusal, limit_of, IsInRange, FilesFit, IsReached, IsDue, bad_words, bad_work, bad_firms, unread, too_long, no_memory, StoresAll, StoresPart, SomeStoreRose, IsCutSay, Delivers, whole, unsaid, unstored, unstored_unsaid, no_room, no_room_unsaid, NeedsNoMemory, Runs, delivered, cut_short}
 use Rattle.emp_command.specs.Refusals.{line_of, status_of, IsLong, SomeUnloaded, TextsFit}
-use Rattle.emp_command.specs.Deliveries.{SomeStoreRose}
 use Rattle.emp_command.proofs.Telling.{told_join, told_both, told_map, rose_first, rose_second}
 use Rattle.std.proofs.lemmas.Bool.{false≢true}
 use Rattle.emp_command.specs.declared.words.Verb.TheVariants.{Solve, Check, Print, Make, Migrate}
@@ -34,20 +33,33 @@ part_after [] x y z k h = absurd h
 part_after (s ∷ ss) x y z k (inl h) = inl (record { here = h.here; others = λ name n. h.others name n ∙ k.files name; said = h.said ∙ k.said })
 part_after (s ∷ ss) x y z k (inr h) = inr (h.0, record { here = h.1.here; others = λ name n. h.1.others name n ∙ k.files name; said = h.1.said ∙ k.said }, h.2)
 
-delivers_after : (o : Outcome) (x y z : Contents) (end : ℕ) → KeepsAll x y → Delivers o y z end → Delivers o x z end
-delivers_after o x y z end k (whole b st sa) = whole b (stores_after o.stores x y b k st) sa
-delivers_after o x y z end k (unsaid s b c st sa) = unsaid s b c (stores_after o.stores x y b k st) sa
-delivers_after o x y z end k (unstored s l b c i st sa) = unstored s l b c i (part_after o.stores x y b k st) sa
+module _ (f0 f1 f2 : Place → ℕ) (first : NoneFalls f0 f1) where
+  cut_after : (end : ℕ) → IsCutSay f1 f2 end → IsCutSay f0 f2 end
+  cut_after end (inl h) = inl (h.0, rose_second (f0 output) (f1 output) (f2 output) h.1 (first output))
+  cut_after end (inr e) = inr e
+
+  rose_after : (ss : List (List ℕ × List ℕ)) → SomeStoreRose ss f1 f2 → SomeStoreRose ss f0 f2
+  rose_after [] h = absurd h
+  rose_after (s ∷ ss) (inl h) = inl (rose_second (f0 (stores s.0)) (f1 (stores s.0)) (f2 (stores s.0)) h (first (stores s.0)))
+  rose_after (s ∷ ss) (inr h) = inr (rose_after ss h)
+
+  delivers_after : (o : Outcome) (x y z : Contents) (end : ℕ) → KeepsAll x y → Delivers o f1 f2 y z end → Delivers o f0 f2 x z end
+  delivers_after o x y z end k (whole b st sa) = whole b (stores_after o.stores x y b k st) sa
+  delivers_after o x y z end k (unsaid s b c st sa) = unsaid s b (cut_after s c) (stores_after o.stores x y b k st) sa
+  delivers_after o x y z end k (unstored b r st sa) = unstored b (rose_after o.stores r) (part_after o.stores x y b k st) sa
+  delivers_after o x y z end k (unstored_unsaid s b c r st sa) = unstored_unsaid s b (cut_after s c) (rose_after o.stores r) (part_after o.stores x y b k st) sa
+  delivers_after o x y z end k (no_room b st sa) = no_room b (part_after o.stores x y b k st) sa
+  delivers_after o x y z end k (no_room_unsaid s b c st sa) = no_room_unsaid s b (cut_after s c) (part_after o.stores x y b k st) sa
 
 module _ (words : List (List ℕ)) (f0 f1 f2 : Place → ℕ) (t0 t1 t2 : Option Contents) (first : NoneFalls f0 f1) (keeps : Told KeepsAll t0 t1) where
   abbrev DueNow : Outcome → Contents → Contents → Type 0
   DueNow o x y = IsDue IsAnswer words f0 f2 x o
 
   -- what is due, once it is delivered
-  course_of : (o : Outcome) (end : ℕ) → Told (DueNow o) t0 t1 → Told (λ x y. Delivers o x y end) t1 t2 → Told (λ x y. Runs IsAnswer words f0 f2 x y end) t0 t2
+  course_of : (o : Outcome) (end : ℕ) → Told (DueNow o) t0 t1 → Told (λ x y. Delivers o f1 f2 x y end) t1 t2 → Told (λ x y. Runs IsAnswer words f0 f2 x y end) t0 t2
   course_of o end due del =
-      told_join (λ x y. DueNow o x y × KeepsAll x y) (λ x y. Delivers o x y end) (λ x y. Runs IsAnswer words f0 f2 x y end)
-      (λ x y z p d. delivered o end p.0 (delivers_after o x y z end p.1 d)) t0 t1 t2
+      told_join (λ x y. DueNow o x y × KeepsAll x y) (λ x y. Delivers o f1 f2 x y end) (λ x y. Runs IsAnswer words f0 f2 x y end)
+      (λ x y z p d. delivered o end p.0 (delivers_after f0 f1 f2 first o x y z end p.1 d)) t0 t1 t2
       (told_both (DueNow o) KeepsAll (λ x y. DueNow o x y × KeepsAll x y) (λ x y d k. (d, k)) t0 t1 due keeps) del
 
   -- the files that are stored are ones that the words name to be written
@@ -85,9 +97,16 @@ module _ (words : List (List ℕ)) (f0 f1 f2 : Place → ℕ) (t0 t1 t2 : Option
   market_of o end m (inr (inl e)) = λ h. ap is_market_status e
   market_of o end m (inr (inr e)) = λ h. ap is_market_status e.0
 
-  pub delivered_ends : (o : Outcome) (end : ℕ) → IsStatus o.status → o.status ≢ 12 → (o.status ≡ 11 → SomeLoadRose words f0 f2) → Market o.status → Writes o → Told (DueNow o) t0 t1 → Told (λ x y. Delivers o x y end) t1 t2 → Cause o end → Ends words f0 f2 t0 t2 end
-  delivered_ends o end s n rose m w due del cause = record {
+  -- words that are not plain are refused before anything is due
+  plain_of : (o : Outcome) (end : ℕ) → o.status ≢ 10 → Cause o end → end ≢ 10
+  plain_of o end n (inl e) h = n (sym e ∙ h)
+  plain_of o end n (inr (inl e)) h = absurd (omega arith)
+  plain_of o end n (inr (inr e)) h = absurd (let k = e.0 in omega arith)
+
+  pub delivered_ends : (o : Outcome) (end : ℕ) → IsStatus o.status → o.status ≢ 10 → o.status ≢ 12 → (o.status ≡ 11 → SomeLoadRose words f0 f2) → Market o.status → Writes o → Told (DueNow o) t0 t1 → Told (λ x y. Delivers o f1 f2 x y end) t1 t2 → Cause o end → Ends words f0 f2 t0 t2 end
+  delivered_ends o end s p n rose m w due del cause = record {
     course = course_of o end due del;
+    plain = λ e. absurd (plain_of o end p cause e);
     unread = unread_of o end rose cause;
     unwritten = unwritten_of o end n w cause;
     answers = status_answers o end s cause;
@@ -122,25 +141,25 @@ module _ (words : List (List ℕ)) (f0 f1 f2 : Place → ℕ) (t0 t1 t2 : Option
         told_both (λ x y. FilesFit x 1 h.earlier) (IsLong h.name (length h.earlier + 1)) (DueNow (refusal 13 (line_of (TooLong k most))))
         (λ x y f l. long_due x (length h.earlier + 1) most k h.name h.why.1 h.why.0 (reached x (length h.earlier + 1) h.name h.earlier h.later h.files refl f) l) t0 t1 h.fit h.why.2
 
-    unloaded_status : (f : Refusal) → SomeUnloaded r.files f0 f1 t0 t1 f → IsStatus (status_of f) × (status_of f ≢ 12) × (status_of f ≡ 11 → SomeLoadRose words f0 f2)
+    unloaded_status : (f : Refusal) → SomeUnloaded r.files f0 f1 t0 t1 f → IsStatus (status_of f) × (status_of f ≢ 10) × (status_of f ≢ 12) × (status_of f ≡ 11 → SomeLoadRose words f0 f2)
     unloaded_status BadWords h = absurd h.why
     unloaded_status BadWork h = absurd h.why
     unloaded_status BadFirms h = absurd h.why
     unloaded_status Unwritten h = absurd h.why
-    unloaded_status NoMemory h = (refl, (λ e. omega arith), (λ e. absurd (omega arith)))
-    unloaded_status (TooLong k most) h = (refl, (λ e. omega arith), (λ e. absurd (omega arith)))
-    unloaded_status (Unread k) h = (refl, (λ e. omega arith), (λ e. (r, h.earlier, h.name, h.later, asks, h.files, rose_later (loads h.name) h.why.1)))
+    unloaded_status NoMemory h = (refl, (λ e. omega arith), (λ e. omega arith), (λ e. absurd (omega arith)))
+    unloaded_status (TooLong k most) h = (refl, (λ e. omega arith), (λ e. omega arith), (λ e. absurd (omega arith)))
+    unloaded_status (Unread k) h = (refl, (λ e. omega arith), (λ e. omega arith), (λ e. (r, h.earlier, h.name, h.later, asks, h.files, rose_later (loads h.name) h.why.1)))
 
     other_verb : (s : ℕ) → r.verb ≢ Make → Market s
     other_verb s n h = absurd (n (make_verb words r h asks))
 
-    pub unloaded_ends : r.verb ≢ Make → (f : Refusal) (end : ℕ) → SomeUnloaded r.files f0 f1 t0 t1 f → Told (λ x y. Delivers (refusal (status_of f) (line_of f)) x y end) t1 t2 → Cause (refusal (status_of f) (line_of f)) end → Ends words f0 f2 t0 t2 end
-    unloaded_ends v f end h del cause = let s = unloaded_status f h in delivered_ends (refusal (status_of f) (line_of f)) end s.0 s.1 s.2 (other_verb (status_of f) v) (no_writes (status_of f) (line_of f)) (unloaded_due f h) del cause
+    pub unloaded_ends : r.verb ≢ Make → (f : Refusal) (end : ℕ) → SomeUnloaded r.files f0 f1 t0 t1 f → Told (λ x y. Delivers (refusal (status_of f) (line_of f)) f1 f2 x y end) t1 t2 → Cause (refusal (status_of f) (line_of f)) end → Ends words f0 f2 t0 t2 end
+    unloaded_ends v f end h del cause = let s = unloaded_status f h in delivered_ends (refusal (status_of f) (line_of f)) end s.0 s.1 s.2 s.3 (other_verb (status_of f) v) (no_writes (status_of f) (line_of f)) (unloaded_due f h) del cause
 
     -- no memory for the answer
-    pub starved_ends : (end : ℕ) → Told (λ x y. Delivers (refusal 21 (line_of NoMemory)) x y end) t1 t2 → Cause (refusal 21 (line_of NoMemory)) end → Ends words f0 f2 t0 t2 end
+    pub starved_ends : (end : ℕ) → Told (λ x y. Delivers (refusal 21 (line_of NoMemory)) f1 f2 x y end) t1 t2 → Cause (refusal 21 (line_of NoMemory)) end → Ends words f0 f2 t0 t2 end
     starved_ends end del cause =
-        delivered_ends (refusal 21 (line_of NoMemory)) end refl (λ e. omega arith) (λ e. absurd (omega arith)) (λ h. refl) (no_writes 21 (line_of NoMemory)) (told_map KeepsAll (DueNow (refusal 21 (line_of NoMemory))) (λ x y k. no_memory r asks range) t0 t1 keeps) del cause
+        delivered_ends (refusal 21 (line_of NoMemory)) end refl (λ e. omega arith) (λ e. omega arith) (λ e. absurd (omega arith)) (λ h. refl) (no_writes 21 (line_of NoMemory)) (told_map KeepsAll (DueNow (refusal 21 (line_of NoMemory))) (λ x y k. no_memory r asks range) t0 t1 keeps) del cause
 
 -- ---- words that are not plain, and numbers out of range
 module _ (words : List (List ℕ)) (f0 f2 : Place → ℕ) (t0 t2 : Option Contents) where
@@ -148,7 +167,7 @@ module _ (words : List (List ℕ)) (f0 f2 : Place → ℕ) (t0 t2 : Option Conte
   Refused f end = ((end ≡ 12) × Rose (f0 output) (f2 output)) ⊎ (end ≡ status_of f)
 
   refused_runs : (f : Refusal) (end : ℕ) → NeedsNoMemory words → (status_of f ≡ 10) ⊎ (status_of f ≡ 24) → ((x : Contents) → IsDue IsAnswer words f0 f2 x (refusal (status_of f) (line_of f))) → Refused f end → (x y : Contents) → SaysPrefix (line_of f) x y → Runs IsAnswer words f0 f2 x y end
-  refused_runs f end need kind due (inl h) x y s = delivered (refusal (status_of f) (line_of f)) end (due x) (unsaid end x (inl h.0) (record { files = λ name. refl; said = refl }) s)
+  refused_runs f end need kind due (inl h) x y s = delivered (refusal (status_of f) (line_of f)) end (due x) (unsaid end x (inl h) (record { files = λ name. refl; said = refl }) s)
   refused_runs f end need kind due (inr e) x y s = subst (Runs IsAnswer words f0 f2 x y) (sym e) (cut_short (refusal (status_of f) (line_of f)) need kind (due x) s)
 
   ten_or : (s : ℕ) → (s ≡ 10) ⊎ (s ≡ 24) → IsStatus s × (s ≢ 11) × (s ≢ 12)
@@ -175,9 +194,14 @@ module _ (words : List (List ℕ)) (f0 f2 : Place → ℕ) (t0 t2 : Option Conte
   refused_makes f end kind (inl h) w = ap is_market_status h.0
   refused_makes f end kind (inr e) w = ap is_market_status e ∙ of_market (status_of f) kind
 
-  pub refused_ends : (f : Refusal) (end : ℕ) → NeedsNoMemory words → (status_of f ≡ 10) ⊎ (status_of f ≡ 24) → ((x : Contents) → IsDue IsAnswer words f0 f2 x (refusal (status_of f) (line_of f))) → Told (SaysPrefix (line_of f)) t0 t2 → Refused f end → Ends words f0 f2 t0 t2 end
-  refused_ends f end need kind due said h = record {
+  refused_plain : (f : Refusal) (end : ℕ) → (status_of f ≡ 10 → IsPlain words → ⊥) → Refused f end → end ≡ 10 → IsPlain words → ⊥
+  refused_plain f end bad (inl h) e = absurd (let k = h.0 in omega arith)
+  refused_plain f end bad (inr h) e = bad (sym h ∙ e)
+
+  pub refused_ends : (f : Refusal) (end : ℕ) → NeedsNoMemory words → (status_of f ≡ 10 → IsPlain words → ⊥) → (status_of f ≡ 10) ⊎ (status_of f ≡ 24) → ((x : Contents) → IsDue IsAnswer words f0 f2 x (refusal (status_of f) (line_of f))) → Told (SaysPrefix (line_of f)) t0 t2 → Refused f end → Ends words f0 f2 t0 t2 end
+  refused_ends f end need bad kind due said h = record {
     course = told_map (SaysPrefix (line_of f)) (λ x y. Runs IsAnswer words f0 f2 x y end) (refused_runs f end need kind due h) t0 t2 said;
+    plain = refused_plain f end bad h;
     unread = refused_unread f end (ten_or (status_of f) kind).1 h;
     unwritten = refused_unwritten f end (ten_or (status_of f) kind).2 h;
     answers = refused_answers f end (ten_or (status_of f) kind).0 h;
@@ -185,16 +209,27 @@ module _ (words : List (List ℕ)) (f0 f2 : Place → ℕ) (t0 t2 : Option Conte
   }
 
   pub bad_words_ends : (end : ℕ) → (IsPlain words → ⊥) → Told (SaysPrefix bad_words_line) t0 t2 → Refused BadWords end → Ends words f0 f2 t0 t2 end
-  bad_words_ends end bad said h = refused_ends BadWords end (inl bad) (inl refl) (λ x. bad_words bad) said h
+  bad_words_ends end bad said h = refused_ends BadWords end (inl bad) (λ e. bad) (inl refl) (λ x. bad_words bad) said h
 
   pub out_of_range_ends : (r : Asked) (f : Refusal) (end : ℕ) → Asks words r → IsOutOfRange r f → Told (SaysPrefix (line_of f)) t0 t2 → Refused f end → Ends words f0 f2 t0 t2 end
   out_of_range_ends r BadWords end asks out said h = absurd out
-  out_of_range_ends r BadWork end asks out said h = refused_ends BadWork end (inr (r, asks, (λ k. out k.0))) (inr refl) (λ x. bad_work r asks out) said h
-  out_of_range_ends r BadFirms end asks out said h = refused_ends BadFirms end (inr (r, asks, (λ k. out.1 (k.1 out.0)))) (inr refl) (λ x. bad_firms r asks out.0 out.1) said h
+  out_of_range_ends r BadWork end asks out said h = refused_ends BadWork end (inr (r, asks, (λ k. out k.0))) (λ e. absurd (omega arith)) (inr refl) (λ x. bad_work r asks out) said h
+  out_of_range_ends r BadFirms end asks out said h = refused_ends BadFirms end (inr (r, asks, (λ k. out.1 (k.1 out.0)))) (λ e. absurd (omega arith)) (inr refl) (λ x. bad_firms r asks out.0 out.1) said h
   out_of_range_ends r (Unread k) end asks out said h = absurd out
   out_of_range_ends r (TooLong k n) end asks out said h = absurd out
   out_of_range_ends r Unwritten end asks out said h = absurd out
   out_of_range_ends r NoMemory end asks out said h = absurd out
+
+-- a number out of range is answered with 24, or with 12 where the say fails
+pub out_of_range_status : (r : Asked) (f : Refusal) (end : ℕ) (rose : Type 0) → IsOutOfRange r f → ((end ≡ 12) × rose) ⊎ (end ≡ status_of f) → (end ≡ 12) ⊎ (end ≡ 24)
+out_of_range_status r f end rose out (inl h) = inl h.0
+out_of_range_status r BadWork end rose out (inr e) = inr e
+out_of_range_status r BadFirms end rose out (inr e) = inr e
+out_of_range_status r BadWords end rose out (inr e) = absurd out
+out_of_range_status r (Unread k) end rose out (inr e) = absurd out
+out_of_range_status r (TooLong k n) end rose out (inr e) = absurd out
+out_of_range_status r Unwritten end rose out (inr e) = absurd out
+out_of_range_status r NoMemory end rose out (inr e) = absurd out
 
 -- ---- the texts of a request that is built
 three_fit : (texts : List (List ℕ)) → length texts ≡ 3 → TextsFit 1 texts → AreTexts Check texts

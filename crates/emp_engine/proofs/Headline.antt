@@ -1,11 +1,12 @@
 -- What an answer over the texts says of the files, by its status.
-use Rattle.std.proofs.Common.{◌≡◌, ℕ, ◌<◌, ◌⊎◌, inl, inr, Bool, true, false, List, [], ◌∷◌, ◌++◌, map, Ok, arith, refl, sym, ap, ap₂, subst, ◌∙◌}
+use Rattle.std.proofs.Common.{◌≡◌, ℕ, ◌<◌, ◌⊎◌, inl, inr, Bool, true, false, pos, List, [], ◌∷◌, ◌++◌, map, length, get_or, Ok, arith, refl, sym, ap, ap₂, subst, ◌∙◌}
 use Rattle.emp_num.specs.declared.frac.Frac.{Frac}
 use Rattle.emp_num.specs.Point.{Point, StandsFor}
 use Rattle.emp_num.proofs.Commons.{common_point, stands_for_common}
 use Rattle.emp_ast.specs.declared.model.Model.{Model}
 use Rattle.emp_ast.specs.declared.annot.Annot.{Annot}
 use Rattle.emp_ast.specs.Names.{variable_names}
+use Rattle.emp_ast.specs.Parties.{is_defined}
 use Rattle.emp_desk.specs.Desk.{Contents, Says}
 use Rattle.emp_command.specs.declared.words.Verb.{Verb}
 use Rattle.emp_command.specs.declared.words.Verb.TheVariants.{Solve, Check, Print, Make, Migrate}
@@ -34,6 +35,7 @@ use Rattle.emp_solution.proofs.Rows.{stated_has_rows}
 use Rattle.emp_solution.proofs.Tells.{stated_tells, is_equilibrium, is_bilevel}
 use Rattle.emp_solution.proofs.Back.{filled_is_file, spread_is_step}
 use Rattle.emp_subst.specs.Fill.{spread}
+use Rattle.emp_engine.proofs.Steps.{spread_still}
 use Rattle.emp_report.specs.Report.{unbounded_report}
 use Rattle.emp_outcomes.specs.Outcomes.{state_status, Refuses, bad_owner, unstated, walk_status, ReportOf, Solves, refused, unfinished, unfilled, too_long, answered, Unaccepted, no_rows, bad_text, rejected, wide_sum, Checks, unaccepted, accepted, Migrates, unmigrated, migrated_long, migrated}
 use Rattle.emp_answers.specs.Answers.{Does, prints, solves, checks, migrates, Answers, unbuilt, bad_model, bad_info, done}
@@ -275,6 +277,8 @@ module _ (m : Model) (a : Annot) (s : Stated) (i : IsStated m a s) (f : Found) (
     step : Point
     stands : StandsFor values point
     steps_stand : StandsFor steps step
+    bilevel : a.bilevel ≡ true
+    still : (x : ℕ) (f : Frac) → x < length steps → is_defined m a x ≡ true → (get_or steps x f).num ≡ pos 0
     ray : IsRay m a point step
 
   pub ray_at : (v : Verdict) (t : ℕ × List ℕ) → f.cert.verdict ≡ v → ReportOf m a s f v t → t.0 ≡ 2 → RayAt t
@@ -298,6 +302,8 @@ module _ (m : Model) (a : Annot) (s : Stated) (i : IsStated m a s) (f : Found) (
         step = common_point (spread m a gs);
         stands = p;
         steps_stand = v;
+        bilevel = is_bilevel m a s.system (stated_has_rows m a s i) sh.0 sh.1;
+        still = λ x f l d. spread_still m a gs x f l d;
         ray = stated_tells m a s (Unbounded fs gs) i sh (common_point fs) (common_point gs) (common_point h.values) (common_point (spread m a gs)) q d file step.0 step.1;
       }
 
@@ -335,6 +341,7 @@ module _ (words : List (List ℕ)) (x y : Contents) (end : ℕ) (n : IsAnswered 
         model = d.model;
         annot = d.annot;
         texts = d.texts;
+        bilevel = p.bilevel;
         work = h.found.work;
         values = p.values;
         steps = p.steps;
@@ -343,5 +350,6 @@ module _ (words : List (List ℕ)) (x y : Contents) (end : ℕ) (n : IsAnswered 
         step = p.step;
         stands = p.stands;
         steps_stand = p.steps_stand;
+        still = p.still;
         ray = p.ray;
       }

@@ -3,11 +3,14 @@ mod Ending
 mod Statuses
 mod Saying
 mod Answered
+mod Steps
 mod Headline
 mod Clauses
 mod Whole
 mod Selling
 mod Refused
 mod Deciding
+mod Tested
 mod Owned
 mod Ended
+mod OneOutcome

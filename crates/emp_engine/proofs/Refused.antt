@@ -6,7 +6,7 @@ use Rattle.emp_desk.specs.Desk.{Place, Contents, KeepsAll, Says, SaysPrefix}
 use Rattle.emp_ast.specs.declared.model.Model.{Model}
 use Rattle.emp_ast.specs.declared.annot.Annot.{Annot}
 use Rattle.emp_command.specs.Words.{Asked}
-use Rattle.emp_command.specs.Course.{Outcome, refusal, IsDue, bad_words, bad_work, bad_firms, unread, too_long, answered, no_memory, IsCut, Delivers, whole, unsaid, unstored, StoresAll, Runs, delivered, cut_short}
+use Rattle.emp_command.specs.Course.{Outcome, refusal, IsDue, bad_words, bad_work, bad_firms, unread, too_long, answered, no_memory, IsCutSay, Delivers, whole, unsaid, unstored, unstored_unsaid, no_room, no_room_unsaid, StoresAll, Runs, delivered, cut_short}
 use Rattle.emp_ast.specs.declared.tree.Place.{Place as TextPlace}
 use Rattle.emp_lex.specs.declared.token.Token.{Token}
 use Rattle.emp_lex.specs.declared.fault.LexFault.{LexFault}
@@ -233,14 +233,17 @@ module _ (words : List (List ℕ)) (f0 f1 : Place → ℕ) (x y : Contents) wher
       let s = says_then b o.says (alone_keeps o.stores b l.alone st) sa in
       record { line = o.says; fault = l.begins; said = prefix_of o.says s; whole = λ n. s }
 
-  cut_kept : (s : ℕ) → IsCut s → is_refusal s ≡ true → ⊥
-  cut_kept s (inl e) ok = false≢true (ap is_refusal (sym e) ∙ ok)
+  cut_kept : (s : ℕ) → IsCutSay f0 f1 s → is_refusal s ≡ true → ⊥
+  cut_kept s (inl e) ok = false≢true (ap is_refusal (sym e.0) ∙ ok)
   cut_kept s (inr e) ok = false≢true (ap is_refusal (sym e) ∙ ok)
 
-  delivery_line : (o : Outcome) (s : ℕ) → Refused o → Delivers o x y s → is_refusal s ≡ true → SaysRefusal s words x y
+  delivery_line : (o : Outcome) (s : ℕ) → Refused o → Delivers o f0 f1 x y s → is_refusal s ≡ true → SaysRefusal s words x y
   delivery_line o s d (whole b st sa) ok = whole_line o b (d ok) st sa
   delivery_line o s d (unsaid t b c st sa) ok = absurd (cut_kept t c ok)
-  delivery_line o s d (unstored t l b c i st sa) ok = absurd (cut_kept t c ok)
+  delivery_line o s d (unstored b r st sa) ok = absurd (false≢true ok)
+  delivery_line o s d (unstored_unsaid t b c r st sa) ok = absurd (cut_kept t c ok)
+  delivery_line o s d (no_room b st sa) ok = absurd (false≢true ok)
+  delivery_line o s d (no_room_unsaid t b c st sa) ok = absurd (cut_kept t c ok)
 
   pub says_refusal : (end : ℕ) → is_refusal end ≡ true → Runs IsAnswer words f0 f1 x y end → SaysRefusal end words x y
   says_refusal end ok (delivered o s due del) = delivery_line o s (due_line o due) del ok

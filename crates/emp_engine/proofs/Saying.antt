@@ -4,9 +4,8 @@ use Rattle.emp_desk.specs.Desk.{Place, stores, Contents, Told, KeepsAll, NoneFal
 use Rattle.emp_command.specs.declared.words.Verb.TheVariants.{Make}
 use Rattle.emp_command.specs.declared.refusal.Refusal.TheVariants.{NoMemory}
 use Rattle.emp_command.specs.Words.{Asked, Asks, solve, check, print, make, migrate, pieces}
-use Rattle.emp_command.specs.Course.{Outcome, refusal, IsInRange, IsDue, answered, Delivers}
+use Rattle.emp_command.specs.Course.{Outcome, refusal, IsInRange, IsDue, answered, SomeStoreRose, Delivers}
 use Rattle.emp_command.specs.Refusals.{line_of, HoldTexts}
-use Rattle.emp_command.specs.Deliveries.{SomeStoreRose}
 use Rattle.emp_command.proofs.Telling.{told_map, rose_second}
 use Rattle.emp_engine.specs.Run.{IsMake, is_market_status, IsAnswer, market, SomeWriteRose, written}
 use Rattle.emp_engine.proofs.Verbs.{make_verb, solve_not_make, print_not_make, check_not_make, migrate_not_make, pieces_not_make}
@@ -26,11 +25,11 @@ module _ (words : List (List ℕ)) (f0 f1 f2 : Place → ℕ) (t0 t1 t2 : Option
   stores_write (s ∷ ss) h (inl n) = inr (r, s.0, asks, h.0, rose_second (f0 (stores s.0)) (f1 (stores s.0)) (f2 (stores s.0)) n (first (stores s.0)))
   stores_write (s ∷ ss) h (inr n) = stores_write ss h.1 n
 
-  pub said_ends : (texts seen : List (List ℕ)) (o : Outcome) (end : ℕ) → seen ≡ texts → Told (HoldTexts 1 r.files texts) t0 t1 → IsAnswer r seen o → (IsMake words → is_market_status o.status ≡ true) → Told (λ x y. Delivers o x y end) t1 t2 → SayCause o end f1 f2 → Ends words f0 f2 t0 t2 end
+  pub said_ends : (texts seen : List (List ℕ)) (o : Outcome) (end : ℕ) → seen ≡ texts → Told (HoldTexts 1 r.files texts) t0 t1 → IsAnswer r seen o → (IsMake words → is_market_status o.status ≡ true) → Told (λ x y. Delivers o f1 f2 x y end) t1 t2 → SayCause o end f1 f2 → Ends words f0 f2 t0 t2 end
   said_ends texts seen o end e hold ans m del cause =
       let a : IsAnswer r texts o = subst (λ ts. IsAnswer r ts o) e ans in
       let l = answer_late r texts o range a in
-      delivered_ends words f0 f1 f2 t0 t1 t2 first keeps o end l.status (not_caused o.status 12 l.cause refl (λ k. omega arith)) (λ k. absurd (not_caused o.status 11 l.cause refl (λ j. omega arith) k)) m
+      delivered_ends words f0 f1 f2 t0 t1 t2 first keeps o end l.status (not_caused o.status 10 l.cause refl (λ k. omega arith)) (not_caused o.status 12 l.cause refl (λ k. omega arith)) (λ k. absurd (not_caused o.status 11 l.cause refl (λ j. omega arith) k)) m
       (stores_write o.stores (answer_named r texts o a)) (answer_due texts o hold a) del cause
 
 -- a request of a market names no file
@@ -55,10 +54,10 @@ made_status s (inl e) = ap is_market_status e
 made_status s (inr (inl e)) = ap is_market_status e
 made_status s (inr (inr e)) = ap is_market_status e
 
-pub over_market_ends : (words : List (List ℕ)) (f0 f1 : Place → ℕ) (t0 t1 : Option Contents) (r : Asked) → Asks words r → IsInRange r → r.verb ≡ Make → (o : Outcome) (end : ℕ) → Makes r o → Told (λ x y. Delivers o x y end) t0 t1 → SayCause o end f0 f1 → Ends words f0 f1 t0 t1 end
+pub over_market_ends : (words : List (List ℕ)) (f0 f1 : Place → ℕ) (t0 t1 : Option Contents) (r : Asked) → Asks words r → IsInRange r → r.verb ≡ Make → (o : Outcome) (end : ℕ) → Makes r o → Told (λ x y. Delivers o f0 f1 x y end) t0 t1 → SayCause o end f0 f1 → Ends words f0 f1 t0 t1 end
 over_market_ends words f0 f1 t0 t1 r asks range v o end h del cause = said_ends words f0 f0 f1 t0 t0 t1 (none_falls f0) (kept t0) r asks range [] [] o end refl (no_texts r.files t0 (market_files words r asks v)) (market o v h) (λ w. made_status o.status (makes_end r o (range.1 v) h)) del cause
 
-pub over_market_starves : (words : List (List ℕ)) (f0 f1 : Place → ℕ) (t0 t1 : Option Contents) (r : Asked) → Asks words r → IsInRange r → NoneFalls f0 f1 → (end : ℕ) → Told (λ x y. Delivers (refusal 21 (line_of NoMemory)) x y end) t0 t1 → SayCause (refusal 21 (line_of NoMemory)) end f0 f1 → Ends words f0 f1 t0 t1 end
+pub over_market_starves : (words : List (List ℕ)) (f0 f1 : Place → ℕ) (t0 t1 : Option Contents) (r : Asked) → Asks words r → IsInRange r → NoneFalls f0 f1 → (end : ℕ) → Told (λ x y. Delivers (refusal 21 (line_of NoMemory)) f0 f1 x y end) t0 t1 → SayCause (refusal 21 (line_of NoMemory)) end f0 f1 → Ends words f0 f1 t0 t1 end
 over_market_starves words f0 f1 t0 t1 r asks range second end del cause = starved_ends words f0 f0 f1 t0 t0 t1 (none_falls f0) (kept t0) second r asks range end del cause
 
 -- where the request is of another verb no status is asked of `make`

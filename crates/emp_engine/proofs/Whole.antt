@@ -54,7 +54,7 @@ apart_distinct ps xs ys a n j k l h s = go (order j k)
 split_length : (ps xs ys : List (List ℕ)) → length (ps ++ (xs ++ ys)) ≡ length ps + (length xs + length ys)
 split_length ps xs ys = length-append ps (xs ++ ys) ∙ ap (λ n. length ps + n) (length-append xs ys)
 
-distinct_names : (m : Model) (text : List ℕ) → IsModelText text m → HasDistinctNames m
+pub distinct_names : (m : Model) (text : List ℕ) → IsModelText text m → HasDistinctNames m
 distinct_names m text t =
     let s = sound_model m (record { text = text; is = t }) in
     let e : variable_names m ++ equation_names m ++ m.name ∷ [] ≡ variable_names m ++ (equation_names m ++ m.name ∷ []) = append_assoc (variable_names m) (equation_names m) (m.name ∷ []) in

@@ -4,9 +4,8 @@ use Rattle.emp_desk.specs.Desk.{Place, output, Contents, Told, Rose}
 use Rattle.emp_command.specs.declared.words.Verb.TheVariants.{Make}
 use Rattle.emp_command.specs.declared.refusal.Refusal.{Refusal}
 use Rattle.emp_command.specs.declared.refusal.Refusal.TheVariants.{BadWords, BadWork, BadFirms, Unread, TooLong, Unwritten, NoMemory}
-use Rattle.emp_command.specs.Words.{Asked, Asks}
-use Rattle.emp_command.specs.Course.{Outcome, Runs, IsWorkInRange, AreFirmsInRange}
-use Rattle.emp_command.specs.Deliveries.{SomeStoreRose}
+use Rattle.emp_command.specs.Words.{Asked, Asks, IsPlain}
+use Rattle.emp_command.specs.Course.{Outcome, SomeStoreRose, Runs, IsWorkInRange, AreFirmsInRange}
 use Rattle.emp_engine.specs.Run.{IsMake, is_market_status, IsAnswer, SomeLoadRose, SomeWriteRose, IsStatus}
 
 abbrev pub IsOutOfRange : Asked → Refusal → Type 0
@@ -28,6 +27,7 @@ IsRequest r = (words : List (List ℕ)) × Asks words r
 
 pub record Ends (words : List (List ℕ)) (f0 f1 : Place → ℕ) (t0 t1 : Option Contents) (end : ℕ) : Type 0 where
   pub course : Told (λ before after. Runs IsAnswer words f0 f1 before after end) t0 t1
+  pub plain : end ≡ 10 → IsPlain words → ⊥
   pub unread : end ≡ 11 → SomeLoadRose words f0 f1
   pub unwritten : end ≡ 12 → SomeWriteRose words f0 f1
   pub answers : IsStatus end

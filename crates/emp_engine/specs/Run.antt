@@ -1,11 +1,12 @@
 -- What the clauses of `run` say, by the status that it answers.
-use Rattle.std.specs.Prelude.{◌≡◌, ◌≢◌, ◌⊎◌, ℕ, ◌+◌, ◌/◌, ◌%◌, Bool, true, false, nat_eq, bytes_eq, List, [], ◌∷◌, ◌++◌, map, take, codes, Option, Some, None, Ok}
+use Rattle.std.specs.Prelude.{◌≡◌, ◌≢◌, ◌⊎◌, ℕ, ◌+◌, ◌<◌, ◌/◌, ◌%◌, Bool, true, false, nat_eq, bytes_eq, pos, List, [], ◌∷◌, ◌++◌, map, length, take, slice_index_or, codes, Option, Some, None, Ok}
 use Rattle.std.specs.List.{list_any}
 use Rattle.emp_num.specs.declared.frac.Frac.{Frac}
 use Rattle.emp_num.specs.Point.{Point, StandsFor}
 use Rattle.emp_ast.specs.declared.model.Model.{Model}
 use Rattle.emp_ast.specs.declared.annot.Annot.{Annot}
 use Rattle.emp_ast.specs.Names.{variable_names}
+use Rattle.emp_ast.specs.Parties.{is_defined}
 use Rattle.emp_ast.specs.Equilibrium.{IsEquilibrium}
 use Rattle.emp_ast.specs.Bilevel.{IsBest, IsRay}
 use Rattle.emp_desk.specs.Desk.{Place, loads, stores, output, Contents, Says, SaysPrefix, Rose}
@@ -45,6 +46,8 @@ use Rattle.emp_makes.specs.Makes.{OutputGives, ProfitGives, summary, Makes}
 use Rattle.emp_report.specs.CertLines.{sum_line, accepted_line, migrated_line}
 use Rattle.emp_report.specs.Report.{equilibrium_report, best_report, unbounded_report}
 use Rattle.emp_outcomes.specs.Outcomes.{Refuses, Solves}
+use Rattle.emp_outcome_laws.specs.Certificates.{check_outcome, migrate_outcome}
+use Rattle.emp_outcome_laws.specs.Images.{VerdictStands}
 use Rattle.emp_answers.specs.Answers.{is_built, Does, Answers}
 
 -- ---- words
@@ -108,11 +111,13 @@ pub record ShowsNone (words : List (List ℕ)) (before after : Contents) : Type 
   pub texts : TextsSay words before model annot
   pub none : (p : Point) → SolvesFile model annot p → ⊥
 
--- the output grew by the report of a point and a step, which are a ray of what the two texts stand for
+-- the output grew by the report of a point and a step, which are a ray of what the two texts stand for: the file is bilevel, and a
+-- variable that an equation defines has a step of 0, which is not printed
 pub record SaysRay (words : List (List ℕ)) (before after : Contents) : Type 0 where
   pub model : Model
   pub annot : Annot
   pub texts : TextsSay words before model annot
+  pub bilevel : annot.bilevel ≡ true
   pub work : ℕ
   pub values : List Frac
   pub steps : List Frac
@@ -121,11 +126,12 @@ pub record SaysRay (words : List (List ℕ)) (before after : Contents) : Type 0 
   pub step : Point
   pub stands : StandsFor values point
   pub steps_stand : StandsFor steps step
+  pub still : (x : ℕ) (f : Frac) → x < length steps → is_defined model annot x ≡ true → (slice_index_or steps x f).num ≡ pos 0
   pub ray : IsRay model annot point step
 
 -- ---- certificates
 -- the third file holds the text of a certificate that is accepted for the rows of what the two texts stand for; its verdict tells what it
--- says of them
+-- says of them, and the point of the file that it speaks of is there
 pub record HasAccepted (words : List (List ℕ)) (before : Contents) : Type 0 where
   pub model : Model
   pub annot : Annot
@@ -138,6 +144,7 @@ pub record HasAccepted (words : List (List ℕ)) (before : Contents) : Type 0 wh
   pub text : before.holds cert_file ≡ cert_text cert
   pub accepted : checked stated.system cert ≡ Accepted
   pub tells : VerdictTells model annot cert.verdict
+  pub stands : VerdictStands model annot cert.verdict
 
 pub record ShowsAccepted (words : List (List ℕ)) (before after : Contents) : Type 0 where
   pub has : HasAccepted words before
@@ -272,6 +279,15 @@ ShowsCause status words before after = IsAnswered words before after status
 abbrev pub IsReachable : List (List ℕ) → Contents → Type 0
 IsReachable words before = (r : Asked) → Asks words r → IsInRange r × FilesFit before 1 r.files
 
+-- a file was not read, something was not written, memory was wanting, or it is so
+abbrev pub OrFails : ℕ → Type 0 → Type 0
+OrFails status so = (status ≡ 11) ⊎ ((status ≡ 12) ⊎ ((status ≡ 21) ⊎ so))
+
+-- whatever counts rose
+abbrev pub Completes : List (List ℕ) → ℕ → Contents → Contents → Type 0
+Completes words status before after = IsPlain words → IsReachable words before → OrFails status (IsAnswered words before after status)
+
+-- and where none rose
 abbrev pub IsComplete : List (List ℕ) → ℕ → Contents → Contents → Type 0
 IsComplete words status before after = IsPlain words → IsReachable words before → (status ≡ 21) ⊎ IsAnswered words before after status
 
@@ -329,6 +345,35 @@ pub record IsDecided (words : List (List ℕ)) (m : Model) (a : Annot) (before a
 -- where the texts are an accepted pair, plain words of `solve` are answered so, unless memory was wanted
 abbrev pub DecidesWhole : List (List ℕ) → ℕ → Contents → Contents → Type 0
 DecidesWhole words status before after = IsSolve words → (m : Model) (a : Annot) → IsAcceptedPair m a → IsPlain words → IsReachable words before → ((r : Asked) → Asks words r → NamesTexts r before m a) → (status ≡ 21) ⊎ IsDecided words m a before after status
+
+-- ---- any certificate
+-- the two texts have a row system, and the third file holds the text of a certificate
+pub record HoldsCert (words : List (List ℕ)) (before : Contents) : Type 0 where
+  pub model : Model
+  pub annot : Annot
+  pub texts : TextsSay words before model annot
+  pub cert_file : List ℕ
+  pub third : texts.others ≡ cert_file ∷ []
+  pub stated : Stated
+  pub rows : IsStated model annot stated
+  pub cert : Cert
+  pub text : before.holds cert_file ≡ cert_text cert
+
+-- the outcome was stored and said whole
+pub record IsDelivered (o : Outcome) (before after : Contents) (status : ℕ) : Type 0 where
+  pub is : o.status ≡ status
+  pub between : Contents
+  pub stored : StoresAll o.stores before between
+  pub said : Says o.says between after
+
+-- `check` answers as its test against the rows ends: accepted, rejected at a node, or a sum is wide at one
+abbrev pub TestsWhole : List (List ℕ) → ℕ → Contents → Contents → Type 0
+TestsWhole words status before after = IsCheck words → (h : HoldsCert words before) → IsPlain words → IsReachable words before → OrFails status (IsDelivered (check_outcome h.cert (checked h.stated.system h.cert)) before after status)
+
+-- and `migrate` the same, where d is the certificate with the pairs of the rows named; an accepted one is stored unless its text is too long
+abbrev pub MovesWhole : List (List ℕ) → ℕ → Contents → Contents → Type 0
+MovesWhole words status before after =
+    IsMigrate words → (h : HoldsCert words before) (name : List ℕ) (d : Cert) → h.texts.request.output ≡ Some name → IsUpgrade h.cert h.stated.system.pairs d → IsPlain words → IsReachable words before → OrFails status (IsDelivered (migrate_outcome name d (checked h.stated.system h.cert)) before after status)
 
 -- ---- certificates of the program's own
 -- the third file holds the text of the certificate that `solve` finds of what the two texts stand for, with some work
@@ -401,6 +446,10 @@ SomeWriteRose words old new = Rose (old output) (new output) ⊎ ((r : Asked) ×
 pub record NothingRose (words : List (List ℕ)) (old new : Place → ℕ) : Type 0 where
   pub written : SomeWriteRose words old new → ⊥
   pub loaded : SomeLoadRose words old new → ⊥
+
+-- a number that plain words ask is out of its range
+abbrev pub IsOutside : List (List ℕ) → Type 0
+IsOutside words = (r : Asked) × Asks words r × (IsInRange r → ⊥)
 
 -- ---- statuses
 -- 0 a report, canonical texts or an accepted certificate, 1 none, 2 unbounded, 10 words, 11 unread, 12 unwritten, 13 too long, 14 model

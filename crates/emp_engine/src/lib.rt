@@ -4,4 +4,5 @@
 //! `specs/Answers.antt` of `emp_answers`, and what is answered over what they stand for in `specs/Outcomes.antt` of `emp_outcomes`.
 #![tactic(auto)]
 
+pub mod laws;
 pub mod run;

@@ -7,7 +7,7 @@ ghost use Rattle.emp_command.specs.Course.{Runs, Delivers, IsInRange, refusal as
 ghost use Rattle.emp_command.specs.Refusals.{line_of, status_of};
 ghost use Rattle.emp_command.specs.Requests.{asked_of};
 ghost use Rattle.emp_outcomes.specs.Steps.{outcome_of};
-ghost use Rattle.emp_engine.specs.Run.{IsAnswer, IsSolve, IsPrint, IsCheck, IsMigrate, IsMake, SaysPoint, ShowsNone, SaysRay, ShowsAccepted, ShowsMigrated, SaysCanonical, ShowsModelFault, ShowsInfoFault, ShowsOwnFault, ShowsNotConvex, ShowsMarket, is_market_status, ShowsCause, is_caused, IsComplete, MakesWhole, DoesWhole, DecidesWhole, OwnWhole, is_refusal, SaysRefusal, KeepsOthers, SomeLoadRose, SomeWriteRose, NothingRose, IsStatus};
+ghost use Rattle.emp_engine.specs.Run.{IsAnswer, IsSolve, IsPrint, IsCheck, IsMigrate, IsMake, SaysPoint, ShowsNone, SaysRay, ShowsAccepted, ShowsMigrated, SaysCanonical, ShowsModelFault, ShowsInfoFault, ShowsOwnFault, ShowsNotConvex, ShowsMarket, is_market_status, ShowsCause, is_caused, Completes, IsComplete, MakesWhole, DoesWhole, DecidesWhole, TestsWhole, MovesWhole, OwnWhole, is_refusal, SaysRefusal, KeepsOthers, SomeLoadRose, SomeWriteRose, NothingRose, IsOutside, IsStatus};
 ghost use Rattle.emp_engine.specs.Ends.{Ends, SayCause, IsOutOfRange, IsRequest};
 
 use emp_answers::answer::answer_texts;
@@ -42,7 +42,7 @@ fn out_of_range(request: &Request) -> Option<Refusal>
 
 /// Stores and says an answer over the texts.
 fn say<D: Desk>(answer: &Answer, desk: &mut D) -> u8
-    ensures told { Told (λ before after. Delivers (outcome_of answer.now) before after result) (D.tells desk.old) (D.tells desk.new) }
+    ensures told { Told (λ before after. Delivers (outcome_of answer.now) (D.faults desk.old) (D.faults desk.new) before after result) (D.tells desk.old) (D.tells desk.new) }
     ensures cause { SayCause (outcome_of answer.now) result (D.faults desk.old) (D.faults desk.new) }
     ensures none_falls { NoneFalls (D.faults desk.old) (D.faults desk.new) }
 {
@@ -56,7 +56,7 @@ fn say<D: Desk>(answer: &Answer, desk: &mut D) -> u8
 
 /// Says the line of a refusal.
 fn say_refusal<D: Desk>(refusal: Refusal, desk: &mut D) -> u8
-    ensures told { Told (λ before after. Delivers (refused (status_of refusal) (line_of refusal)) before after result) (D.tells desk.old) (D.tells desk.new) }
+    ensures told { Told (λ before after. Delivers (refused (status_of refusal) (line_of refusal)) (D.faults desk.old) (D.faults desk.new) before after result) (D.tells desk.old) (D.tells desk.new) }
     ensures cause { SayCause (refused (status_of refusal) (line_of refusal)) result (D.faults desk.old) (D.faults desk.new) }
     ensures none_falls { NoneFalls (D.faults desk.old) (D.faults desk.new) }
 {
@@ -108,7 +108,8 @@ fn carry_out<D: Desk>(alloc: Global, request: &Request, desk: &mut D) -> u8
 /// Carries out the request, unless one of its numbers is out of range.
 fn fulfil<D: Desk>(alloc: Global, request: &Request, desk: &mut D) -> u8
     requires { IsRequest (asked_of request.now) }
-    ensures { (words : List (List ℕ)) → Asks words (asked_of request.now) → Ends words (D.faults desk.old) (D.faults desk.new) (D.tells desk.old) (D.tells desk.new) result }
+    ensures ends { (words : List (List ℕ)) → Asks words (asked_of request.now) → Ends words (D.faults desk.old) (D.faults desk.new) (D.tells desk.old) (D.tells desk.new) result }
+    ensures range { (IsInRange (asked_of request.now) → ⊥) → (result ≡ 12) ⊎ (result ≡ 24) }
 {
     match out_of_range(request) {
         Some(refusal) => refuse(refusal, desk),
@@ -120,6 +121,7 @@ fn fulfil<D: Desk>(alloc: Global, request: &Request, desk: &mut D) -> u8
 fn obey<D: Desk>(alloc: Global, words: &[String], desk: &mut D) -> u8
     ensures ends { Ends (map string_bytes words.now) (D.faults desk.old) (D.faults desk.new) (D.tells desk.old) (D.tells desk.new) result }
     ensures words { (IsPlain (map string_bytes words.now) → ⊥) → (result ≡ 10) ⊎ (result ≡ 12) }
+    ensures range { IsOutside (map string_bytes words.now) → (result ≡ 12) ⊎ (result ≡ 24) }
 {
     match asked(words) {
         Some(request) => fulfil(alloc, &request, desk),
@@ -154,8 +156,13 @@ pub fn run<D: Desk>(alloc: Global, words: &[String], desk: &mut D) -> u8
     ensures unread { result ≡ 11 → SomeLoadRose (map string_bytes words.now) (D.faults desk.old) (D.faults desk.new) }
     ensures unwritten { result ≡ 12 → SomeWriteRose (map string_bytes words.now) (D.faults desk.old) (D.faults desk.new) }
     ensures words { (IsPlain (map string_bytes words.now) → ⊥) → (result ≡ 10) ⊎ (result ≡ 12) }
+    ensures plain { result ≡ 10 → IsPlain (map string_bytes words.now) → ⊥ }
+    ensures range { IsOutside (map string_bytes words.now) → (result ≡ 12) ⊎ (result ≡ 24) }
     ensures files { Told (KeepsOthers (map string_bytes words.now)) (D.tells desk.old) (D.tells desk.new) }
     ensures answers { IsStatus result }
+    ensures ended { Told (Completes (map string_bytes words.now) result) (D.tells desk.old) (D.tells desk.new) }
+    ensures tested { Told (TestsWhole (map string_bytes words.now) result) (D.tells desk.old) (D.tells desk.new) }
+    ensures moved { Told (MovesWhole (map string_bytes words.now) result) (D.tells desk.old) (D.tells desk.new) }
     ensures whole { NothingRose (map string_bytes words.now) (D.faults desk.old) (D.faults desk.new) → Told (IsComplete (map string_bytes words.now) result) (D.tells desk.old) (D.tells desk.new) }
     ensures made { NothingRose (map string_bytes words.now) (D.faults desk.old) (D.faults desk.new) → Told (MakesWhole (map string_bytes words.now) result) (D.tells desk.old) (D.tells desk.new) }
     ensures done { NothingRose (map string_bytes words.now) (D.faults desk.old) (D.faults desk.new) → Told (DoesWhole (map string_bytes words.now) result) (D.tells desk.old) (D.tells desk.new) }

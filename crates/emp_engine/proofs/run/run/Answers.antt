@@ -1,4 +1,4 @@
-use Rattle.emp_engine.proofs.Ended.{ends_solved, ends_none, ends_ray, ends_accepted, ends_migrated, ends_canonical, ends_model_fault, ends_info_fault, ends_own_fault, ends_not_convex, ends_market, ends_caused, ends_files, ends_refused, ends_whole, ends_made, ends_done, ends_decided, ends_own}
+use Rattle.emp_engine.proofs.Ended.{ends_solved, ends_none, ends_ray, ends_accepted, ends_migrated, ends_canonical, ends_model_fault, ends_info_fault, ends_own_fault, ends_not_convex, ends_market, ends_caused, ends_files, ends_refused, ends_completed, ends_tested, ends_moved, ends_whole, ends_made, ends_done, ends_decided, ends_own}
 use Rattle.emp_engine.proofs.run.run.Goals as goal
 
 pub returns-clause-solved : goal.returns-clause-solved
@@ -42,6 +42,15 @@ returns-clause-files g c = ends_files _ _ _ _ _ _ c.obey.ensures.ends
 
 pub returns-clause-refused : goal.returns-clause-refused
 returns-clause-refused g c = ends_refused _ _ _ _ _ _ c.obey.ensures.ends
+
+pub returns-clause-ended : goal.returns-clause-ended
+returns-clause-ended g c = ends_completed _ _ _ _ _ _ c.obey.ensures.ends
+
+pub returns-clause-tested : goal.returns-clause-tested
+returns-clause-tested g c = ends_tested _ _ _ _ _ _ c.obey.ensures.ends
+
+pub returns-clause-moved : goal.returns-clause-moved
+returns-clause-moved g c = ends_moved _ _ _ _ _ _ c.obey.ensures.ends
 
 pub returns-clause-whole : goal.returns-clause-whole
 returns-clause-whole g c quiet = ends_whole _ _ _ _ _ _ c.obey.ensures.ends quiet
