@@ -29,7 +29,7 @@ use Rattle.emp_quantities.proofs.Over.{over_length, take_over, split_over, under
 
 -- ---- a multiple has the signs of its row
 -- a number for each base variable
-abbrev IsWhole : Game → Point → Type 0
+abbrev pub IsWhole : Game → Point → Type 0
 IsWhole g p = length p.nums ≡ coordinates g + length (base_slots g)
 
 multiple_none : (n : ℤ) (g : Game) (q : Affine) (r : Row) (p : Point) → IsWhole g p → IsMultipleOver n g q r → (affine_at q p ≡ pos 0) ↔ (value_at r p.den (over n g p.nums) ≡ pos 0)
@@ -57,18 +57,18 @@ multiple_nonneg n g q r p fits m = (
     turn a b = by_ring (a ∷ b ∷ []) (var 1 ⊗ var 0) (var 0 ⊗ var 1) refl
 
 -- ---- numbers of quantities
-abbrev at_number : List Affine → ℕ → Affine
+abbrev pub at_number : List Affine → ℕ → Affine
 at_number all k = slice_index_or all (k - 1) no_row
 
-abbrev Vanishes : List Affine → Point → ℕ × ℕ → Type 0
+abbrev pub Vanishes : List Affine → Point → ℕ × ℕ → Type 0
 Vanishes all p n = (affine_at (at_number all n.0) p ≡ pos 0) ⊎ (affine_at (at_number all n.1) p ≡ pos 0)
 
-abbrev AllVanish : List Affine → Point → List (ℕ × ℕ) → Type 0
+abbrev pub AllVanish : List Affine → Point → List (ℕ × ℕ) → Type 0
 AllVanish all p [] = Unit {0}
 AllVanish all p (n ∷ ns) = Vanishes all p n × AllVanish all p ns
 
 -- the rest of the list begins behind so many
-abbrev BeginsAt : List Affine → ℕ → List Affine → Type 0
+abbrev pub BeginsAt : List Affine → ℕ → List Affine → Type 0
 BeginsAt all before qs = (i : ℕ) → slice_index_or all (before + i) no_row ≡ slice_index_or qs i no_row
 
 next : (all : List Affine) (before : ℕ) (q : Affine) (qs : List Affine) → BeginsAt all before (q ∷ qs) → BeginsAt all (before + 1) qs
@@ -96,7 +96,7 @@ second_is all before q r qs h = ap (λ n. slice_index_or all n no_row) (step bef
     step b = omega arith
 
 -- ---- the conditions
-abbrev Holding : List Affine → ℕ → List Affine → List Condition → Point → Type 0
+abbrev pub Holding : List Affine → ℕ → List Affine → List Condition → Point → Type 0
 Holding all before qs cs p = AreOfKind qs (kinds_of cs) p × AllVanish all p (pairs_of before cs)
 
 either_same : {A B C D : Type 0} → A ↔ C → B ↔ D → (A ⊎ B) ↔ (C ⊎ D)
@@ -110,7 +110,7 @@ either_same {A} {B} {C} {D} f g = (there, back)
     back (inl c) = inl (f.1 c)
     back (inr d) = inr (g.1 d)
 
-numbered : (n : ℤ) (g : Game) (all : List Affine) (before : ℕ) (qs : List Affine) (cs : List Condition) (p : Point) → IsWhole g p → BeginsAt all before qs → AreMultiplesOver n g qs (rows_of cs) → Holding all before qs cs p ↔ HoldAt cs p.den (over n g p.nums)
+pub numbered : (n : ℤ) (g : Game) (all : List Affine) (before : ℕ) (qs : List Affine) (cs : List Condition) (p : Point) → IsWhole g p → BeginsAt all before qs → AreMultiplesOver n g qs (rows_of cs) → Holding all before qs cs p ↔ HoldAt cs p.den (over n g p.nums)
 numbered n g all before [] [] p fits b m = (λ h. tt, λ h. (tt, tt))
 numbered n g all before (q ∷ qs) [] p fits b m = absurd m
 numbered n g all before [] (zero_row r ∷ cs) p fits b m = absurd m
@@ -137,12 +137,12 @@ numbered n g all before (q ∷ (t ∷ qs)) (pair x y ∷ cs) p fits b m =
     )
 
 -- ---- pairs by their places
-by_place : (all : List Affine) (p : Point) (ns : List (ℕ × ℕ)) → AllVanish all p ns → (k : ℕ) → k < length ns → Vanishes all p (slice_index_or ns k (0, 0))
+pub by_place : (all : List Affine) (p : Point) (ns : List (ℕ × ℕ)) → AllVanish all p ns → (k : ℕ) → k < length ns → Vanishes all p (slice_index_or ns k (0, 0))
 by_place all p [] h k l = absurd (omega arith)
 by_place all p (n ∷ ns) h zero l = h.0
 by_place all p (n ∷ ns) h (suc k) l = by_place all p ns h.1 k (omega arith)
 
-from_places : (all : List Affine) (p : Point) (ns : List (ℕ × ℕ)) → ((k : ℕ) → k < length ns → Vanishes all p (slice_index_or ns k (0, 0))) → AllVanish all p ns
+pub from_places : (all : List Affine) (p : Point) (ns : List (ℕ × ℕ)) → ((k : ℕ) → k < length ns → Vanishes all p (slice_index_or ns k (0, 0))) → AllVanish all p ns
 from_places all p [] h = tt
 from_places all p (n ∷ ns) h = (h 0 (omega arith), from_places all p ns (λ k l. h (suc k) (omega arith)))
 

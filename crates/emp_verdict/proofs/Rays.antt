@@ -53,7 +53,7 @@ same_along p v r q d w t x i is here step moved =
 
 -- ---- the point after t steps
 -- it is that of the row point after t steps
-after_file : (m : Model) (a : Annot) (p v q d r w : Point) (t : ℕ) → HasCoordinates m a p q → HasCoordinates m a v d → IsAfterSteps m a p v t r → IsAlong q d t w → IsFileOf m a w r
+pub after_file : (m : Model) (a : Annot) (p v q d r w : Point) (t : ℕ) → HasCoordinates m a p q → HasCoordinates m a v d → IsAfterSteps m a p v t r → IsAlong q d t w → IsFileOf m a w r
 after_file m a p v q d r w t here step after is = record {
   fits = after.fits;
   definitions = after.definitions;
@@ -61,10 +61,10 @@ after_file m a p v q d r w t here step after is = record {
 }
 
 -- the numbers of the variables that are left, after t steps
-abbrev left_along : Model → Annot → Point → Point → ℕ → List ℤ
+abbrev pub left_along : Model → Annot → Point → Point → ℕ → List ℤ
 left_along m a p v t = selected (left m a) (along p v t)
 
-moved_to : (m : Model) (a : Annot) (p v : Point) (t : ℕ) (f : Filled m a (v.den *ℤ p.den) (left_along m a p v t)) (x : ℕ) → IsAmong (left m a) x → SameRatio (coordinate f.point x) (plus (coordinate p x) (times (ratio (pos t) (pos 1)) (coordinate v x)))
+pub moved_to : (m : Model) (a : Annot) (p v : Point) (t : ℕ) (f : Filled m a (v.den *ℤ p.den) (left_along m a p v t)) (x : ℕ) → IsAmong (left m a) x → SameRatio (coordinate f.point x) (plus (coordinate p x) (times (ratio (pos t) (pos 1)) (coordinate v x)))
 moved_to m a p v t f x among =
     let i = among.0 in
     let place : get_or (left m a) i 0 ≡ x = among.2 in

@@ -1,0 +1,12 @@
+pub mod Terms
+pub mod Values
+pub mod Conditions
+pub mod Rows
+pub mod Solving
+pub mod Leading
+pub mod Choosing
+pub mod Building
+pub mod Reforms
+pub mod Owned
+pub mod Verdicts
+pub mod Small
