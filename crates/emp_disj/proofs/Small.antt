@@ -109,8 +109,7 @@ after : (x y : Variable) (v q : Point) (t : ℕ) → length q.nums ≡ 3 → Mee
 after x y v q t fits d one two = record {
   fits = fits;
   moved = below_three (λ w. is_defined (picked x y) (apart either) w ≡ false → SameRatio (coordinate q w) (plus (coordinate start w) (times (ratio (pos t) (pos 1)) (coordinate v w)))) (λ h. cc) (λ h. one) (λ h. two);
-  leader_given = each_of_five (λ e c. defines (picked x y) (apart either) leader e ≡ true → MeetsEquation q c) z_is_sum x_from_four y_from_three x_to_one y_to_two (λ h. d) (λ h. cc) (λ h. cc) (λ h. cc) (λ h. cc);
-  given = below_one (λ k. EachDefinition (picked x y) (apart either) (block k) (λ e c. MeetsEquation q c)) (λ e c at h. cc);
+  definitions = record { blocks = below_one (λ k. EachDefinition (picked x y) (apart either) (block k) (λ e c. MeetsEquation q c)) (λ e c at h. cc); leads = λ b. each_of_five (λ e c. defines (picked x y) (apart either) leader e ≡ true → MeetsEquation q c) z_is_sum x_from_four y_from_three x_to_one y_to_two (λ h. d) (λ h. cc) (λ h. cc) (λ h. cc) (λ h. cc) };
 }
 
 abbrev fallen : ℕ → Point
@@ -145,7 +144,7 @@ fallen_choice t q h =
     let low : (pos 0 *ℤ q.den) ≤ℤ (cell q.nums 2 *ℤ pos 1) = omega (arith, linear, y, three, none, same_y) in
     let met : (pos 3 *ℤ q.den) ≤ℤ (cell q.nums 2 *ℤ pos 1) = omega (arith, linear, y, same_y) in
     let high : (cell q.nums 1 *ℤ pos 1) ≤ℤ (pos 1 *ℤ q.den) = omega (arith, linear, x, td, once, same_x, up) in
-    admissible free (from 0) q h.fits (tt, tt) (low, tt) (h.leader_given 0 z_is_sum refl refl) (inr met) (inl high)
+    admissible free (from 0) q h.fits (tt, tt) (low, tt) (h.definitions.leads refl 0 z_is_sum refl refl) (inr met) (inl high)
 
 falls_more : (z x y d w u v e s t : ℤ) → pos 0 <ℤ d → pos 0 <ℤ e → z ≡ x +ℤ y → w ≡ u +ℤ v → x ≡ neg_ℤ (s *ℤ d) → y ≡ pos 3 *ℤ d → u ≡ neg_ℤ (t *ℤ e) → v ≡ pos 3 *ℤ e → t ≡ s +ℤ pos 1 → (w *ℤ d) <ℤ (z *ℤ e)
 falls_more z x y d w u v e s t up_d up_e z_sum w_sum x_at y_at u_at v_at more =
@@ -162,8 +161,8 @@ examples_of_choice_rays = record {
     after = λ t. (fallen t, fallen_after t);
     admissible = λ t q h. fallen_choice t q h;
     improves = λ t q r h k. falls_more (cell q.nums 0) (cell q.nums 1) (cell q.nums 2) q.den (cell r.nums 0) (cell r.nums 1) (cell r.nums 2) r.den (pos t) (pos (t + 1)) q.positive r.positive
-        (sum_is (cell q.nums 0) (cell q.nums 1) (cell q.nums 2) q.den q.positive (h.leader_given 0 z_is_sum refl refl))
-        (sum_is (cell r.nums 0) (cell r.nums 1) (cell r.nums 2) r.den r.positive (k.leader_given 0 z_is_sum refl refl))
+        (sum_is (cell q.nums 0) (cell q.nums 1) (cell q.nums 2) q.den q.positive (h.definitions.leads refl 0 z_is_sum refl refl))
+        (sum_is (cell r.nums 0) (cell r.nums 1) (cell r.nums 2) r.den r.positive (k.definitions.leads refl 0 z_is_sum refl refl))
         (x_is (cell q.nums 1) (pos t) q.den (h.moved 1 (omega arith) refl)) (y_is (cell q.nums 2) (pos t) q.den (h.moved 2 (omega arith) refl))
         (x_is (cell r.nums 1) (pos (t + 1)) r.den (k.moved 1 (omega arith) refl)) (y_is (cell r.nums 2) (pos (t + 1)) r.den (k.moved 2 (omega arith) refl)) (omega (arith, ints));
   };

@@ -95,7 +95,7 @@ module _ (m : Model) (ds : List (List EquId)) (pr wide : AgentProblem) (parts : 
   some_after : (p v : Point) (t : ℕ) → (r : Point) × IsAfterSteps m (apart ds) p v t r
   some_after p v t =
       let f = coordinates_fill m (apart ds) (v.den *ℤ p.den) (left_along m (apart ds) p v t) h.files.class (mul_pos v.den p.den v.positive p.positive) (length-map (left m (apart ds)) _) in
-      (f.point, record { fits = f.fits; moved = λ x l d. moved_to m (apart ds) p v t f x (left_finds m (apart ds) x l d); leader_given = f.definitions.leads refl; given = f.definitions.blocks })
+      (f.point, record { fits = f.fits; moved = λ x l d. moved_to m (apart ds) p v t f x (left_finds m (apart ds) x l d); definitions = f.definitions })
 
   has_objective : (r : Affine) × (s.objective ≡ Some r)
   has_objective =
