@@ -24,7 +24,7 @@ use Rattle.emp_ast.specs.Parties.{block, names_variable, names_equation, owns, i
 use Rattle.emp_ast.specs.Rivals.{Fits, IsRival}
 use Rattle.emp_ast.specs.Solved.{gap, flow, step_to, IsAtLeastZero, IsSolved}
 use Rattle.emp_ast.specs.SameLaws.{SameFraction}
-use Rattle.emp_ast.proofs.Fractions.{fraction_itself, at_most_same}
+use Rattle.emp_ast.proofs.Fractions.{fraction_itself, at_most_same, from_nought, to_nought}
 use Rattle.emp_ast.specs.Equilibrium.{IsEquilibrium, is_priced}
 use Rattle.emp_ast.specs.Multipliers.{AreMultipliers}
 use Rattle.emp_mcp.specs.Complementary.{Match, IsAt, IsAtMostZero, IsThere}
@@ -133,9 +133,9 @@ term_up p r v x (Some f) within above there low high = record {
 }
   where
     go : (pos 0 <ℤ (step_to p r v).top) ⊎ (((step_to p r v).top ≡ pos 0) ⊎ ((step_to p r v).top <ℤ pos 0)) → pos 0 ≤ℤ (f.top *ℤ (step_to p r v).top)
-    go (inl up) = mul_nonneg f.top (step_to p r v).top (high (λ at. let s = stops_up p r v x.high at within.1 in absurd (omega (arith, ints)))) (nonneg (step_to p r v).top up)
+    go (inl up) = mul_nonneg f.top (step_to p r v).top ((from_nought f).0 (high (λ at. let s = stops_up p r v x.high at within.1 in absurd (omega (arith, ints))))) (nonneg (step_to p r v).top up)
     go (inr (inl level)) = let e : f.top *ℤ (step_to p r v).top ≡ pos 0 = ap (λ z. f.top *ℤ z) level ∙ by_ring (f.top ∷ []) (var 0 ⊗ lit (pos 0)) (lit (pos 0)) refl in subst (λ z. pos 0 ≤ℤ z) (sym e) (omega (arith, ints))
-    go (inr (inr down)) = product_down f.top (step_to p r v).top (low (λ at. let s = stops_down p r v x.low at within.0 in absurd (omega (arith, ints)))) (omega (arith, ints))
+    go (inr (inr down)) = product_down f.top (step_to p r v).top ((to_nought f).0 (low (λ at. let s = stops_down p r v x.low at within.0 in absurd (omega (arith, ints))))) (omega (arith, ints))
 
 pub variable_at : (m : Model) (v : ℕ) → v < length m.variables → (x : Variable) × (slice_get m.variables v ≡ Some x)
 variable_at m v l = (get_or m.variables v no_variable, slice_get-get_or m.variables v no_variable l)
@@ -355,11 +355,11 @@ module _ (m : Model) (zeros : List VarId) (pairs : List Match) (p : Point) (apar
 
   low_of : (i : ℕ) (q : Match) (x : Variable) → slice_get pairs i ≡ Some q → slice_get m.variables q.1.at ≡ Some x → (o : Option Ratio) → gap m p q.0.at ≡ o → IsThere o → (IsAt (coordinate p q.1.at) x.low → ⊥) → IsAtMostZero o
   low_of i q x at is None e there n = there
-  low_of i q x at is (Some f) e there n = falls_by i q x at is f e x.low refl n
+  low_of i q x at is (Some f) e there n = (to_nought f).1 (falls_by i q x at is f e x.low refl n)
 
   high_of : (i : ℕ) (q : Match) (x : Variable) → slice_get pairs i ≡ Some q → slice_get m.variables q.1.at ≡ Some x → (o : Option Ratio) → gap m p q.0.at ≡ o → IsThere o → (IsAt (coordinate p q.1.at) x.high → ⊥) → IsAtLeastZero o
   high_of i q x at is None e there n = there
-  high_of i q x at is (Some f) e there n = rises_by i q x at is f e x.high refl n
+  high_of i q x at is (Some f) e there n = (from_nought f).1 (rises_by i q x at is f e x.high refl n)
 
   solved_complementary : BlockIsComplementary m zeros pairs p
   solved_complementary = record {

@@ -13,6 +13,7 @@ use Rattle.emp_ast.specs.declared.model.Model.{Model}
 use Rattle.emp_ast.specs.Value.{both}
 use Rattle.emp_ast.specs.Solved.{gap_by, gap, flow, IsAtLeastZero}
 use Rattle.emp_ast.specs.SameLaws.{SameValue}
+use Rattle.emp_ast.proofs.Fractions.{from_nought}
 use Rattle.emp_ast.proofs.SameValues.{same_gap}
 use Rattle.emp_mcp.specs.Complementary.{Match, IsThere}
 
@@ -61,7 +62,7 @@ flow_up m p w [] h = record { above = omega (arith, ints); sign = omega (arith, 
 flow_up m p w (q ∷ qs) h = plus_up (term m p w q) (flow m p w qs) (h 0 q refl) (flow_up m p w qs (λ i r e. h (suc i) r e))
 
 pub up_at_least : (o : Option Ratio) → IsUpThere o → IsAtLeastZero o
-up_at_least (Some x) h = h.sign
+up_at_least (Some x) h = (from_nought x).1 h.sign
 up_at_least None h = h
 
 -- ---- a sum that is there has terms that are there
@@ -112,7 +113,7 @@ module _ (m : Model) (p : Point) (w : ℕ → Ratio) (above : (v : ℕ) → pos 
   first_moves : (x y : Option Ratio) (f v : Ratio) → x ≡ Some (times f v) → IsLevel y → IsAtLeastZero (both (λ x y. Some (plus x y)) x y) → pos 0 ≤ℤ (f.top *ℤ v.top)
   first_moves (Some x) (Some y) f v is k h =
       let same : x ≡ times f v = cc in
-      let up : pos 0 ≤ℤ ((f.top *ℤ v.top) *ℤ y.bottom +ℤ y.top *ℤ (f.bottom *ℤ v.bottom)) = subst (λ z. pos 0 ≤ℤ (z.top *ℤ y.bottom +ℤ y.top *ℤ z.bottom)) same h in
+      let up : pos 0 ≤ℤ ((f.top *ℤ v.top) *ℤ y.bottom +ℤ y.top *ℤ (f.bottom *ℤ v.bottom)) = subst (λ z. pos 0 ≤ℤ (z.top *ℤ y.bottom +ℤ y.top *ℤ z.bottom)) same ((from_nought (plus x y)).0 h) in
       let none : y.top *ℤ (f.bottom *ℤ v.bottom) ≡ pos 0 = ap (λ z. z *ℤ (f.bottom *ℤ v.bottom)) k.1 ∙ by_ring (f.bottom ∷ v.bottom ∷ []) (lit (pos 0) ⊗ (var 0 ⊗ var 1)) (lit (pos 0)) refl in
       let zero_is : pos 0 *ℤ y.bottom ≡ pos 0 = by_ring (y.bottom ∷ []) (lit (pos 0) ⊗ var 0) (lit (pos 0)) refl in
       le_cancel_right (pos 0) (f.top *ℤ v.top) y.bottom (omega (arith, linear)) k.0
@@ -122,9 +123,10 @@ module _ (m : Model) (p : Point) (w : ℕ → Ratio) (above : (v : ℕ) → pos 
   -- the first term is 0
   rest_moves : (x y : Option Ratio) → IsLevel x → IsAtLeastZero (both (λ x y. Some (plus x y)) x y) → IsAtLeastZero y
   rest_moves (Some x) (Some y) k h =
+      let up : pos 0 ≤ℤ (x.top *ℤ y.bottom +ℤ y.top *ℤ x.bottom) = (from_nought (plus x y)).0 h in
       let none : x.top *ℤ y.bottom ≡ pos 0 = ap (λ z. z *ℤ y.bottom) k.1 ∙ by_ring (y.bottom ∷ []) (lit (pos 0) ⊗ var 0) (lit (pos 0)) refl in
       let zero_is : pos 0 *ℤ x.bottom ≡ pos 0 = by_ring (x.bottom ∷ []) (lit (pos 0) ⊗ var 0) (lit (pos 0)) refl in
-      le_cancel_right (pos 0) y.top x.bottom (omega (arith, linear)) k.0
+      (from_nought y).1 (le_cancel_right (pos 0) y.top x.bottom (omega (arith, linear)) k.0)
   rest_moves (Some x) None k h = absurd h
   rest_moves None y k h = absurd h
 

@@ -23,7 +23,7 @@ use Rattle.emp_ast.specs.Solved.{sides_gap, gap_by, gap, IsAtLeastZero}
 use Rattle.emp_ast.specs.Equilibrium.{IsEquilibrium}
 use Rattle.emp_ast.specs.SameLaws.{SameFraction, SameValue}
 use Rattle.emp_owner.proofs.Lists.{any_map}
-use Rattle.emp_ast.proofs.Fractions.{fraction_itself, fraction_back, same_same, sign_from, sign_to}
+use Rattle.emp_ast.proofs.Fractions.{fraction_itself, fraction_back, same_same, sign_from, sign_to, from_nought, to_nought}
 use Rattle.emp_mcp.specs.Complementary.{Match, is_matched, is_matched_equation, is_leaf_by, is_of_problem, IsAt, IsAtMostZero, IsThere, IsComplementary}
 use Rattle.emp_mcp.specs.Block.{AreApart, BlockIsComplementary}
 use Rattle.emp_mcp.specs.Target.{problem_variables, problem_equations, place_in, IsEquationOver, AreEquationsOver, no_variable, unmatched, pair_over, matched_pairs, target_annot, IsTarget, AreMatches, Shows}
@@ -40,12 +40,12 @@ there_same (Some x) None s h = s
 there_same None r s h = absurd h
 
 most_same : (o r : Option Ratio) → SameValue o r → IsAtMostZero o → IsAtMostZero r
-most_same (Some x) (Some y) s h = sign_to x.top x.bottom y.top y.bottom s.left s.right s.same h
+most_same (Some x) (Some y) s h = (to_nought y).1 (sign_to x.top x.bottom y.top y.bottom s.left s.right s.same ((to_nought x).0 h))
 most_same (Some x) None s h = s
 most_same None r s h = absurd h
 
 least_same : (o r : Option Ratio) → SameValue o r → IsAtLeastZero o → IsAtLeastZero r
-least_same (Some x) (Some y) s h = sign_from x.top x.bottom y.top y.bottom s.left s.right s.same h
+least_same (Some x) (Some y) s h = (from_nought y).1 (sign_from x.top x.bottom y.top y.bottom s.left s.right s.same ((from_nought x).0 h))
 least_same (Some x) None s h = s
 least_same None r s h = absurd h
 

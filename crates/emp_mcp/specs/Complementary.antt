@@ -1,7 +1,7 @@
 -- Complementarity models: the matches of equations and variables, the variables of the problem, and complementary points.
-use Rattle.std.specs.Prelude.{◌≡◌, ℕ, Bool, true, false, ◌||◌, nat_eq, nat_lt, pos, ◌≤ℤ◌, List, slice_get, Option, Some, None}
+use Rattle.std.specs.Prelude.{◌≡◌, ℕ, Bool, true, false, ◌||◌, nat_eq, nat_lt, List, slice_get, Option, Some, None}
 use Rattle.std.specs.List.{list_any}
-use Rattle.emp_num.specs.Ratio.{Ratio, ratio, SameRatio}
+use Rattle.emp_num.specs.Ratio.{Ratio, ratio, nought, SameRatio, AtMostRatio}
 use Rattle.emp_num.specs.Point.{Point, coordinate}
 use Rattle.emp_ast.specs.declared.tree.VarId.{VarId}
 use Rattle.emp_ast.specs.declared.tree.EquId.{EquId}
@@ -39,7 +39,7 @@ IsAt x Open = ⊥
 IsAt x (At f) = SameRatio x (ratio f.num f.den)
 
 abbrev pub IsAtMostZero : Option Ratio → Type 0
-IsAtMostZero (Some x) = x.top ≤ℤ pos 0
+IsAtMostZero (Some x) = AtMostRatio x nought
 IsAtMostZero None = ⊥
 
 abbrev pub IsThere : Option Ratio → Type 0
