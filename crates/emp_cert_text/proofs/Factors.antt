@@ -9,7 +9,7 @@ use Rattle.std.proofs.lemmas.List.{take_all}
 use Rattle.std.proofs.lemmas.List.Elements.{All-nil, All-cons, All-append, All-head, All-tail}
 use Rattle.emp_num.specs.Exact.{IsNarrow, IsWide}
 use Rattle.emp_numeral.specs.Numeral.{first}
-use Rattle.emp_rows.specs.Values.{is_zero}
+use Rattle.emp_algebra.specs.Vector.{is_zero}
 use Rattle.emp_rows.proofs.Tests.{zero_true, zero_false}
 use Rattle.emp_cert_text.specs.Text.{spaced, sparse, factors}
 use Rattle.emp_cert_text.specs.Words.{whole, lacks, first_word, after_word}

@@ -12,7 +12,7 @@ use Rattle.emp_numeral.specs.Numeral.{first}
 use Rattle.emp_num.specs.declared.frac.Frac.{Frac}
 use Rattle.emp_num.proofs.Same.{frac_eq}
 use Rattle.emp_rows.specs.Points.{IsNumber}
-use Rattle.emp_rows.specs.Values.{is_zero}
+use Rattle.emp_algebra.specs.Vector.{is_zero}
 use Rattle.emp_cert.specs.Certs.{NodeFits, LinksFit, VerdictFits}
 use Rattle.emp_cert.specs.Nodes.{AreTrees, AreTrees-prop}
 use Rattle.emp_cert.specs.declared.tree.Tree.{Tree}

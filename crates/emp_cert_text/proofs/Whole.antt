@@ -11,7 +11,7 @@ use Rattle.emp_numeral.specs.FracText.{fraction_text}
 use Rattle.emp_numeral.specs.Numeral.{first}
 use Rattle.emp_num.specs.declared.frac.Frac.{Frac}
 use Rattle.emp_rows.specs.Points.{IsNumber}
-use Rattle.emp_rows.specs.Values.{is_zero}
+use Rattle.emp_algebra.specs.Vector.{is_zero}
 use Rattle.emp_cert.specs.Certs.{Counts, NodeFits, LinksFit, VerdictFits}
 use Rattle.emp_cert.specs.Nodes.{AreTrees}
 use Rattle.emp_cert.specs.declared.cert.Cert.{Cert}

@@ -3,7 +3,7 @@ use Rattle.std.specs.Prelude.{ℕ, ◌+◌, Bool, true, false, cond, ℤ, List, 
 use Rattle.std.specs.Fmt.{signed_decimal}
 use Rattle.emp_numeral.specs.FracText.{fraction_text}
 use Rattle.emp_num.specs.declared.frac.Frac.{Frac}
-use Rattle.emp_rows.specs.Values.{is_zero}
+use Rattle.emp_algebra.specs.Vector.{is_zero}
 use Rattle.emp_cert.specs.declared.cert.Cert.{Cert}
 use Rattle.emp_cert.specs.declared.cert.Verdict.{Verdict}
 use Rattle.emp_cert.specs.declared.cert.Verdict.TheVariants.{Point, Missing, Best, Unbounded}

@@ -8,7 +8,8 @@ use Rattle.emp_rows.specs.declared.affine.Affine.{Affine}
 use Rattle.emp_rows.specs.declared.system.Kind.{Kind}
 use Rattle.emp_rows.specs.declared.system.RowSystem.{RowSystem}
 use Rattle.emp_rows.specs.RowPoints.{quantity, value_at, rate_along, Solves}
-use Rattle.emp_rows.specs.Values.{is_zero, is_negative, measured, both, kinds_hold, zero_or, pairs_hold}
+use Rattle.emp_algebra.specs.Vector.{is_zero}
+use Rattle.emp_rows.specs.Values.{is_negative, measured, both, kinds_hold, zero_or, pairs_hold}
 use Rattle.emp_rows.proofs.Points.{IsValue, OfKinds, over_zero, over_nonneg, over_negative, zero_passed, negative_passed, negative_failed, value_is, rate_is, all_passed, one_failed, are_kinds, both_passed, zero_or_passed, zero_or_failed, product_zero, pairs_failed}
 use Rattle.emp_rows.proofs.Holding.{passed_solves}
 use Rattle.emp_cert.specs.Verdicts.{RatesOfKind, StaysZero, OneStays, IsRowRay}

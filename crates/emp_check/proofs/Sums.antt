@@ -1,13 +1,13 @@
 -- What the sums of a leaf are.
 use Rattle.std.proofs.Common.{◌≡◌, ℕ, zero, suc, ◌+◌, ◌<◌, ◌≤◌, Bool, true, false, cond, ◌&&◌, ℤ, pos, negsuc, ◌+ℤ◌, ◌-ℤ◌, ◌*ℤ◌, List, [], ◌∷◌, length, map, Option, Some, None, option_and_then, arith, refl, ap, ◌∙◌, subst}
 use Rattle.std.proofs.lemmas.Int.{ints}
-use Rattle.emp_algebra.specs.Vector.{cell, dot, add_rows}
+use Rattle.emp_algebra.specs.Vector.{cell, dot, add_rows, is_zero}
 use Rattle.emp_algebra.proofs.Order.{linear}
 use Rattle.emp_rows.specs.declared.affine.Affine.{Affine}
 use Rattle.emp_rows.specs.declared.system.RowSystem.{RowSystem}
 use Rattle.emp_check.specs.declared.outcome.Tested.{Tested}
 use Rattle.emp_check.specs.declared.outcome.Tested.TheVariants.{Fine, Wrong, Wide}
-use Rattle.emp_rows.specs.Values.{is_narrow, is_zero}
+use Rattle.emp_rows.specs.Values.{is_narrow}
 use Rattle.emp_check.specs.Tests.{and_then, number, moved, stepped, summed, leaf_sum, zero_test, columns_test, objective_of}
 
 pub numbers : Option ℕ → List Affine → List ℤ

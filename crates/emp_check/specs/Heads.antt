@@ -5,7 +5,8 @@ use Rattle.emp_num.specs.Ratio.{Ratio}
 use Rattle.emp_rows.specs.declared.affine.Affine.{Affine}
 use Rattle.emp_rows.specs.declared.system.RowSystem.{RowSystem}
 use Rattle.emp_rows.specs.RowPoints.{quantity}
-use Rattle.emp_rows.specs.Values.{is_zero, is_negative, measured, both, kinds_hold, zero_or, pairs_hold}
+use Rattle.emp_algebra.specs.Vector.{is_zero}
+use Rattle.emp_rows.specs.Values.{is_negative, measured, both, kinds_hold, zero_or, pairs_hold}
 use Rattle.emp_check.specs.declared.outcome.Tested.{Tested}
 use Rattle.emp_check.specs.declared.outcome.Tested.TheVariants.{Fine, Wrong, Wide}
 use Rattle.emp_check.specs.declared.outcome.Why.{Why}

@@ -1,6 +1,6 @@
 -- The tests of a leaf, in order, and what is summed in them.
 use Rattle.std.specs.Prelude.{ℕ, zero, suc, ◌+◌, Bool, true, false, cond, ◌&&◌, not, ℤ, pos, ◌+ℤ◌, ◌-ℤ◌, ◌*ℤ◌, List, [], ◌∷◌, Option, Some, None, option_and_then}
-use Rattle.emp_algebra.specs.Vector.{cell}
+use Rattle.emp_algebra.specs.Vector.{cell, is_zero}
 use Rattle.emp_rows.specs.declared.affine.Affine.{Affine}
 use Rattle.emp_rows.specs.declared.system.Kind.{Kind}
 use Rattle.emp_rows.specs.declared.system.Kind.TheVariants.{Zero, Nonneg}
@@ -12,7 +12,7 @@ use Rattle.emp_check.specs.declared.outcome.Tested.{Tested}
 use Rattle.emp_check.specs.declared.outcome.Tested.TheVariants.{Fine, Wrong, Wide}
 use Rattle.emp_check.specs.declared.outcome.Why.TheVariants.{Factor, NotConstant, Constant, Kind as WrongKind}
 use Rattle.emp_rows.specs.RowPoints.{no_row}
-use Rattle.emp_rows.specs.Values.{is_narrow, is_zero, is_negative}
+use Rattle.emp_rows.specs.Values.{is_narrow, is_negative}
 use Rattle.emp_cert.specs.Paths.{is_on}
 
 -- the second test counts where the first is passed

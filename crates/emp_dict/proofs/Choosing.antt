@@ -8,7 +8,7 @@ use Rattle.emp_algebra.proofs.Laws.{one-*ℤ, neg_ℤ-*ℤ}
 use Rattle.emp_turns.specs.Choice.{Way, Up, Down, Mark, Free, Unasked, Required, Fixed, toward}
 use Rattle.emp_turns.specs.Chooses.{Entry as TurnEntry, way_of, is_negative, is_required, first_column, nearest_row, better_row}
 use Rattle.emp_turns.proofs.Chooser.{FirstOf, first_column_is}
-use Rattle.emp_line.specs.Pivot.{is_zero}
+use Rattle.emp_algebra.specs.Vector.{is_zero}
 use Rattle.emp_line.specs.Indexed.{has_cell}
 use Rattle.emp_dict.specs.declared.label.Aim.{Aim}
 use Rattle.emp_dict.specs.declared.label.Choice.TheVariants.{Stop, Exchange, Ray}

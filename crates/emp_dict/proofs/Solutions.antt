@@ -2,10 +2,10 @@
 use Rattle.std.proofs.Common.{◌≡◌, ◌≢◌, ◌↔◌, ◌⊎◌, inl, inr, ℕ, ◌<◌, ℤ, pos, ◌*ℤ◌, ◌<ℤ◌, false, List, map, length, set, get_or, Option, Some, None, arith, refl, sym, ap, ap₂, subst, ◌∙◌}
 use Rattle.std.proofs.lemmas.Bool.{cases_eq}
 use Rattle.std.proofs.lemmas.List.{get_or-map, map-set, length-map}
-use Rattle.emp_algebra.specs.Vector.{cell, dot}
+use Rattle.emp_algebra.specs.Vector.{cell, dot, is_zero}
 use Rattle.emp_algebra.proofs.Order.{linear}
 use Rattle.emp_line.specs.declared.line.Line.{Line}
-use Rattle.emp_line.specs.Pivot.{is_zero, no_line, turned, pivoted}
+use Rattle.emp_line.specs.Pivot.{no_line, turned, pivoted}
 use Rattle.emp_line.proofs.Steps.{zero_no}
 use Rattle.emp_line.proofs.Exchange.{defect, abs_pos, length-turned}
 use Rattle.emp_line.proofs.Moves.{Moves, moved_is, turned_same, Pivots, pivoted_from_is}

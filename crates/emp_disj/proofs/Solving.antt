@@ -8,7 +8,7 @@ use Rattle.emp_rows.specs.declared.affine.Affine.{Affine}
 use Rattle.emp_rows.specs.declared.system.Kind.{Kind}
 use Rattle.emp_rows.specs.declared.system.RowSystem.{RowSystem}
 use Rattle.emp_rows.specs.RowPoints.{no_row, AreOfKind, Solves}
-use Rattle.emp_game.specs.Game.{Row, Ranges}
+use Rattle.emp_game.specs.Game.{Row}
 use Rattle.emp_game.specs.Game as TheGame
 use Rattle.emp_split.specs.Games.{Leader, Game, coordinates}
 use Rattle.emp_conditions.specs.Base.{Base, base_slots, base_from}

@@ -2,7 +2,7 @@
 use Rattle.std.proofs.Common.{◌≡◌, ◌≢◌, ℕ, zero, suc, ◌-◌, ◌<◌, ◌≤◌, ◌⊎◌, inl, inr, Bool, true, false, cond, ◌||◌, ◌&&◌, not, nat_eq, List, [], ◌∷◌, length, get_or, Option, Some, None, arith, refl, sym, ap, ap₂, subst, ◌∙◌}
 use Rattle.std.proofs.lemmas.Bool.{and_parts, both_ways, cases_eq, eq-eqb}
 use Rattle.std.proofs.lemmas.List.Elements.{All-get_or}
-use Rattle.emp_line.specs.Pivot.{is_zero}
+use Rattle.emp_algebra.specs.Vector.{is_zero}
 use Rattle.emp_rows.specs.declared.system.RowSystem.{RowSystem}
 use Rattle.emp_rows.specs.Systems.{IsMember}
 use Rattle.emp_rows.specs.RowPoints.{pair}

@@ -1,5 +1,5 @@
 -- All points of two small systems.
-use Rattle.std.proofs.Common.{◌≡◌, ◌≢◌, ◌⊎◌, inl, inr, ℕ, zero, suc, ◌<◌, ℤ, pos, negsuc, ◌≤ℤ◌, ◌<ℤ◌, List, [], ◌∷◌, length, get_or, Option, Some, None, arith, refl, ap}
+use Rattle.std.proofs.Common.{◌≡◌, ◌≢◌, inl, inr, ℕ, zero, suc, ◌<◌, ℤ, pos, negsuc, ◌≤ℤ◌, ◌<ℤ◌, List, [], ◌∷◌, length, get_or, Option, Some, None, arith, refl, ap}
 use Rattle.std.proofs.lemmas.Int.{ints}
 use Rattle.std.proofs.lemmas.List.Elements.{All-nil, All-cons}
 use Rattle.std.specs.List.{All}
@@ -7,12 +7,11 @@ use Rattle.emp_num.specs.Exact.{IsNarrow}
 use Rattle.emp_num.specs.Point.{Point}
 use Rattle.emp_rows.specs.declared.affine.Affine.{Affine}
 use Rattle.emp_rows.specs.declared.system.Kind.{Kind}
-use Rattle.emp_rows.specs.declared.system.RowSystem.{RowSystem}
 use Rattle.emp_rows.specs.Affine.{IsRow}
 use Rattle.emp_rows.specs.RowPoints.{OneVanishes, Solves}
 use Rattle.emp_rows.specs.Systems.{IsMember, AllDiffer}
-use Rattle.emp_faces.specs.Shown.{OnFace, OnSome, AreFaces}
-use Rattle.emp_faces.specs.Example.{affine, told, both, IsAxes, axes, four, IsCorners, corners, ExampleAxes, ExampleCorners, ExamplePieces}
+use Rattle.emp_faces.specs.Shown.{OnSome, AreFaces}
+use Rattle.emp_faces.specs.Example.{affine, both, IsAxes, axes, four, IsCorners, corners, ExampleAxes, ExampleCorners, ExamplePieces}
 
 -- ---- the two are systems
 two_cells : (a b : ℤ) → IsNarrow a → IsNarrow b → All IsNarrow (a ∷ b ∷ [])

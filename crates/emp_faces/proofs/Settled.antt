@@ -1,13 +1,12 @@
 -- What is settled at a node is 0 on the face of the node's path.
-use Rattle.std.proofs.Common.{◌≡◌, ◌≢◌, ℕ, zero, suc, ◌-◌, ◌<◌, ◌≤◌, ◌⊎◌, inl, inr, ℤ, pos, negsuc, ◌+ℤ◌, ◌*ℤ◌, Bool, true, false, ◌||◌, ◌&&◌, not, List, [], ◌∷◌, length, map, get_or, Option, Some, None, arith, refl, sym, ap, ap₂, subst, ◌∙◌}
+use Rattle.std.proofs.Common.{◌≡◌, ◌≢◌, ℕ, zero, suc, ◌-◌, ◌<◌, ◌≤◌, ◌⊎◌, inl, inr, ℤ, pos, ◌+ℤ◌, ◌*ℤ◌, Bool, true, false, ◌||◌, ◌&&◌, not, List, [], ◌∷◌, length, map, get_or, Option, Some, None, arith, refl, sym, ap, ap₂, subst, ◌∙◌}
 use Rattle.std.proofs.lemmas.Bool.{and_cases, or_cases, or_parts, and_parts, not-false, not-true}
 use lib.IntN.{zero-*ℤ, *ℤ-zero, *ℤ_comm}
 use Rattle.emp_algebra.proofs.Order.{cancel_right}
-use Rattle.emp_algebra.specs.Vector.{dot}
+use Rattle.emp_algebra.specs.Vector.{dot, is_zero}
 use Rattle.emp_algebra.specs.Deciding.{IsOfKind}
 use Rattle.emp_algebra.specs.Deciding.{Zero as to_be_zero}
 use Rattle.emp_num.specs.Point.{Point}
-use Rattle.emp_line.specs.Pivot.{is_zero}
 use Rattle.emp_line.specs.Place.{is_none}
 use Rattle.emp_line.proofs.Exchange.{is_zero-true}
 use Rattle.emp_rows.specs.declared.affine.Affine.{Affine}

@@ -1,6 +1,5 @@
 -- What the walk of all pieces shows.
 use Rattle.std.proofs.Common.{◌≡◌, ◌≢◌, ◌⊎◌, inl, inr, ℕ, zero, suc, ◌-◌, ◌<◌, ◌≤◌, pos, true, false, List, [], ◌∷◌, ◌++◌, length, get_or, Option, Some, None, arith, refl, sym, ap, subst, ◌∙◌}
-use Rattle.std.proofs.lemmas.List.Elements.{All-get_or}
 use Rattle.emp_algebra.proofs.Deciding.{refutation_leaves_none}
 use Rattle.emp_num.specs.Point.{Point, StandsFor}
 use Rattle.emp_num.specs.declared.frac.Frac.{Frac}
@@ -24,7 +23,6 @@ use Rattle.emp_search.proofs.Working.{AllDone, AskedAs, child_asks}
 use Rattle.emp_search.proofs.Rooted.{root_asked}
 use Rattle.emp_search.proofs.Solved.{solves_by, one_vanishes, zero_value}
 use Rattle.emp_search.proofs.Showing.{FirstAt, first_some, first_none, first_number, second_number}
-use Rattle.emp_rows.specs.Systems.{IsMember}
 use Rattle.emp_dict.specs.declared.label.Mark.{Mark}
 use Rattle.emp_dict.specs.declared.label.Mark.TheVariants.{Unasked}
 use Rattle.std.proofs.lemmas.List.{get_or_past}

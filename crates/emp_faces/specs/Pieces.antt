@@ -1,7 +1,7 @@
 -- The walk of all pieces of a row system: nodes are opened one after another, each with what it asks and with the dictionary that its parent ended
 -- with. A node that holds is split at the first pair that is not settled. Where all are settled it is a piece, and the walk goes on with the next node.
-use Rattle.std.specs.Prelude.{ℕ, zero, suc, Bool, true, false, ◌&&◌, ◌||◌, not, List, [], ◌∷◌, ◌++◌, length, Option, Some, None}
-use Rattle.emp_line.specs.Pivot.{is_zero}
+use Rattle.std.specs.Prelude.{ℕ, zero, suc, Bool, false, ◌&&◌, ◌||◌, not, List, [], ◌∷◌, ◌++◌, length, Option, Some, None}
+use Rattle.emp_algebra.specs.Vector.{is_zero}
 use Rattle.emp_line.specs.Place.{is_none}
 use Rattle.emp_rows.specs.declared.system.RowSystem.{RowSystem}
 use Rattle.emp_rows.specs.RowPoints.{pair}

@@ -10,7 +10,8 @@ use Rattle.emp_num.specs.declared.frac.Frac.{Frac}
 use Rattle.emp_ast.specs.declared.model.End.{End}
 use Rattle.emp_ast.specs.declared.model.End.TheVariants.{Open, At}
 use Rattle.emp_ast.specs.Meets.{IsAbove, IsBelow}
-use Rattle.emp_game.specs.Conditions.{AreComplementary, is_zero, ends_meet, over_low, under_high, BetweenHolds, CoordinateHolds}
+use Rattle.emp_algebra.specs.Vector.{is_zero}
+use Rattle.emp_game.specs.Conditions.{AreComplementary, ends_meet, over_low, under_high, BetweenHolds, CoordinateHolds}
 
 -- ---- zero
 pub is_zero-true : (z : ℤ) → is_zero z ≡ true → z ≡ pos 0

@@ -1,6 +1,6 @@
 -- The conditions of a player in rows: of each own coordinate by its range, and of each rule. All are over the denominator d.
-use Rattle.std.specs.Prelude.{◌≡◌, ◌⊎◌, ℕ, zero, suc, ℤ, pos, negsuc, neg_ℤ, ◌+ℤ◌, ◌-ℤ◌, ◌*ℤ◌, ◌≤ℤ◌, Bool, true, false, List, [], ◌∷◌, map}
-use Rattle.emp_algebra.specs.Vector.{cell, add_rows}
+use Rattle.std.specs.Prelude.{◌≡◌, ◌⊎◌, ℕ, zero, suc, ℤ, pos, neg_ℤ, ◌+ℤ◌, ◌-ℤ◌, ◌*ℤ◌, ◌≤ℤ◌, Bool, true, false, List, [], ◌∷◌, map}
+use Rattle.emp_algebra.specs.Vector.{cell, add_rows, is_zero}
 use Rattle.emp_algebra.specs.Deciding.{total_cells}
 use Rattle.emp_num.specs.declared.frac.Frac.{Frac}
 use Rattle.emp_systems.specs.Steps.{Quadratic}
@@ -16,11 +16,6 @@ abbrev pub AreComplementary : ℤ → ℤ → Type 0
 AreComplementary x y = (pos 0 ≤ℤ x) × (pos 0 ≤ℤ y) × ((x ≡ pos 0) ⊎ (y ≡ pos 0))
 
 -- ---- own coordinates
-abbrev pub is_zero : ℤ → Bool
-is_zero (pos zero) = true
-is_zero (pos (suc n)) = false
-is_zero (negsuc n) = false
-
 -- the two ends are one number
 abbrev pub ends_meet : Frac → Frac → Bool
 ends_meet a b = is_zero (a.num *ℤ b.den -ℤ b.num *ℤ a.den)

@@ -7,7 +7,8 @@ use Rattle.emp_algebra.proofs.Ring.{var, lit, ◌⊖◌, ◌⊗◌, by_ring}
 use Rattle.emp_num.proofs.Same.{same_value}
 use Rattle.emp_num.specs.declared.frac.Frac.{Frac}
 use Rattle.emp_ast.specs.declared.tree.VarId.{VarId}
-use Rattle.emp_game.specs.Conditions.{is_zero, ends_meet}
+use Rattle.emp_algebra.specs.Vector.{is_zero}
+use Rattle.emp_game.specs.Conditions.{ends_meet}
 use Rattle.emp_game.specs.Game.{range_at}
 use Rattle.emp_split.specs.Games.{has_rule}
 use Rattle.emp_split.specs.Numbers.{first_with, needs_own, player_slots}

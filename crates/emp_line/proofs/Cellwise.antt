@@ -8,12 +8,11 @@ use Rattle.std.proofs.lemmas.Bool.{eqb-true, eq-eqb, ne_eqb}
 use Rattle.std.proofs.lemmas.Int.{ints}
 use Rattle.std.proofs.lemmas.Nat.Gcd.{dvd_refl}
 use Rattle.std.proofs.lemmas.List.Elements.{All-nil, All-cons, All-head, All-tail}
-use Rattle.emp_algebra.specs.Vector.{cell, scale}
+use Rattle.emp_algebra.specs.Vector.{cell, scale, quotients}
 use Rattle.emp_num.specs.Gcd.{gcd_of, content_from}
 use Rattle.emp_num.proofs.Gcds.{quot_exact}
 use Rattle.emp_num.proofs.Divisors.{gcd_of_is}
 use Rattle.emp_line.specs.declared.cells.Cell.{Cell}
-use Rattle.emp_line.specs.Pivot.{quotients}
 use Rattle.emp_line.specs.Place.{IsSmall}
 use Rattle.emp_line.specs.Sparse.{no_cell, spread, IsSparse, numbers, patched, divided}
 use Rattle.emp_line.proofs.Spread.{number_at, past, spread_more, sparse_empty, sparse_past, step_end}

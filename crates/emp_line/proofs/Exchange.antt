@@ -3,7 +3,7 @@ use Rattle.std.proofs.Common.{◌≡◌, ℕ, zero, suc, ◌<◌, ℤ, pos, negs
 use Rattle.std.proofs.lemmas.Int.{ints}
 use Rattle.std.proofs.lemmas.List.Elements.{All-head, All-tail}
 use Prim.Native.Nat.{◌∣◌}
-use Rattle.emp_algebra.specs.Vector.{cell, dot, scale, add_rows}
+use Rattle.emp_algebra.specs.Vector.{cell, dot, scale, add_rows, is_zero, quotients}
 use Rattle.emp_algebra.proofs.Ring.{var, lit, neg, ◌⊕◌, ◌⊖◌, ◌⊗◌, by_ring}
 use Rattle.emp_algebra.proofs.Vectors.{dot-scale, dot-add_rows, dot-set_cell, dot-set_coordinate, length-scale, cell-scale}
 use Rattle.emp_num.specs.Gcd.{gcd_of, content_of}
@@ -12,7 +12,7 @@ use Rattle.emp_num.proofs.GcdLaws.{content_divides}
 use Rattle.emp_num.proofs.Divisors.{IsGcd-gcd_of}
 use Rattle.emp_line.specs.declared.line.Line.{Line}
 use Rattle.emp_line.proofs.Sound.{length-quotients}
-use Rattle.emp_line.specs.Pivot.{sign, is_zero, quotients, line_content, reduced, turned_by, turned, Factors, factors, combined}
+use Rattle.emp_line.specs.Pivot.{sign, line_content, reduced, turned_by, turned, Factors, factors, combined}
 
 -- what is missing for the line to hold, where d stands for 1, v for the line's own quantity and ws for those of the columns
 abbrev pub defect : ℤ → Line → ℤ → List ℤ → ℤ

@@ -6,9 +6,9 @@ use Rattle.std.proofs.lemmas.List.Elements.{All-head, All-tail}
 use Rattle.emp_num.specs.Exact.{IsNarrow}
 use Rattle.emp_line.specs.declared.cells.Cell.{Cell}
 use Rattle.emp_line.specs.declared.pairs.Next.{Next}
-use Rattle.emp_line.specs.Pivot.{Factors, is_zero, step_wide}
+use Rattle.emp_line.specs.Pivot.{Factors, step_wide}
 use Rattle.emp_line.specs.Sparse.{Sparse, IsSparse, spread, no_cell, numbers, kept, pairs, pairs_wide, summed, sums}
-use Rattle.emp_algebra.specs.Vector.{cell}
+use Rattle.emp_algebra.specs.Vector.{cell, is_zero}
 use Rattle.emp_line.specs.Place.{IsNext}
 use Rattle.emp_line.proofs.Exchange.{is_zero-true}
 use Rattle.emp_line.proofs.Steps.{or_left, or_right}

@@ -2,9 +2,9 @@
 use Rattle.std.proofs.Common.{ℕ, suc, ◌+◌, ◌≡◌, Bool, true, false, cond, List, [], ◌∷◌, Option, Some, None, length, refl, ap, subst, nat_eq}
 use Rattle.std.specs.List.{All}
 use Rattle.std.proofs.lemmas.List.Elements.{All-nil, All-cons, All-head, All-tail}
-use Rattle.emp_algebra.specs.Vector.{cell}
+use Rattle.emp_algebra.specs.Vector.{cell, is_zero}
 use Rattle.emp_line.specs.declared.line.Line.{Line}
-use Rattle.emp_line.specs.Pivot.{is_zero, factors, combined, combination_wide, reduced, moved, both_there, pivoted_from}
+use Rattle.emp_line.specs.Pivot.{factors, combined, combination_wide, reduced, moved, both_there, pivoted_from}
 use Rattle.emp_line.specs.Lines.{IsLine, line_after}
 use Rattle.emp_line.proofs.Sound.{combined_sound, reduced_sound, own_positive}
 

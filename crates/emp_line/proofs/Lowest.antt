@@ -6,12 +6,12 @@ use Rattle.std.proofs.lemmas.Bool.{cases_eq}
 use Rattle.std.proofs.lemmas.Int.{ints}
 use Rattle.std.proofs.lemmas.List.{get_or_default, get_or-set_other}
 use Rattle.std.proofs.lemmas.List.Elements.{All-nil, All-cons, All-head, All-tail}
-use Rattle.emp_algebra.specs.Vector.{cell, scale}
+use Rattle.emp_algebra.specs.Vector.{cell, scale, is_zero, quotients}
 use Rattle.emp_algebra.proofs.Laws.{mul_pos, one-*ℤ, neg_ℤ-*ℤ}
 use Rattle.emp_algebra.proofs.Vectors.{length-scale, cell-scale}
 use Rattle.emp_num.proofs.GcdLaws.{content_divides}
 use Rattle.emp_line.specs.declared.line.Line.{Line}
-use Rattle.emp_line.specs.Pivot.{sign, is_zero, quotients, reduced, turned, factors, combined, combination_wide, moved, pivoted_from, no_line}
+use Rattle.emp_line.specs.Pivot.{sign, reduced, turned, factors, combined, combination_wide, moved, pivoted_from, no_line}
 use Rattle.emp_line.specs.Lines.{IsLine, IsLowest}
 use Rattle.emp_line.proofs.Moves.{Pivots, pivoted_from_is}
 use Rattle.emp_line.proofs.Seeds.{content_greatest}

@@ -3,9 +3,8 @@ use Rattle.std.proofs.Common.{◌≡◌, ◌≢◌, ◌⊎◌, inl, inr, ℕ, ze
 use Rattle.std.specs.Prelude.{nat_eq}
 use Rattle.std.proofs.lemmas.Bool.{eqb-true, eq-eqb, cases_eq, ne_eqb}
 use Rattle.std.proofs.lemmas.List.{drop_more, drop_all, append-nil, replicate_more, take_more, take_all}
-use Rattle.emp_algebra.specs.Vector.{cell}
+use Rattle.emp_algebra.specs.Vector.{cell, is_zero}
 use Rattle.emp_line.specs.declared.cells.Cell.{Cell}
-use Rattle.emp_line.specs.Pivot.{is_zero}
 use Rattle.emp_line.specs.Sparse.{no_cell, spread, IsSparse}
 use Rattle.emp_line.specs.Indexed.{KeepsOthers, flag}
 use Rattle.emp_line.specs.Place.{stands, MarksCells}

@@ -3,13 +3,13 @@ use Rattle.std.proofs.Common.{◌≡◌, ◌≢◌, ◌↔◌, ℕ, zero, suc, �
 use Rattle.std.specs.Prelude.{nat_eq}
 use Rattle.std.proofs.lemmas.Bool.{eqb-true, eq-eqb}
 use lib.IntN.{zero-*ℤ, *ℤ-zero}
-use Rattle.emp_algebra.specs.Vector.{cell, dot, scale, add_rows}
+use Rattle.emp_algebra.specs.Vector.{cell, dot, scale, add_rows, is_zero}
 use Rattle.emp_algebra.proofs.Ring.{var, lit, neg, ◌⊕◌, ◌⊗◌, by_ring}
 use Rattle.emp_algebra.proofs.Laws.{mul_pos}
 use Rattle.emp_algebra.proofs.Order.{cancel_right}
 use Rattle.emp_algebra.proofs.Vectors.{dot-set_coordinate, length-scale}
 use Rattle.emp_line.specs.declared.line.Line.{Line}
-use Rattle.emp_line.specs.Pivot.{sign, is_zero, line_content, reduced, turned, factors, combined, combination_wide, moved, both_there, pivoted_from, no_line}
+use Rattle.emp_line.specs.Pivot.{sign, line_content, reduced, turned, factors, combined, combination_wide, moved, both_there, pivoted_from, no_line}
 use Rattle.emp_line.proofs.Exchange.{defect, sign_square, is_zero-true, turned_is, combined_is, factors_meet, reduced_is}
 
 -- a product is 0 where a factor is, and where it is 0 beside a factor above 0, the other one is

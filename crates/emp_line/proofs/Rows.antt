@@ -6,14 +6,14 @@ use Rattle.std.proofs.lemmas.Int.{ints}
 use Rattle.std.proofs.lemmas.List.Elements.{All-tail}
 use Rattle.std.proofs.Math.Nat.{zero-div}
 use lib.IntN.{*ℤ-zero}
-use Rattle.emp_algebra.specs.Vector.{cell, scale, add_rows}
+use Rattle.emp_algebra.specs.Vector.{cell, scale, add_rows, is_zero, quotients}
 use Rattle.emp_algebra.proofs.Laws.{one-*ℤ, neg_ℤ-*ℤ}
 use Rattle.emp_num.specs.Exact.{IsNarrow}
 use Rattle.emp_num.specs.Gcd.{content_from, content_of}
 use Rattle.emp_num.proofs.GcdLaws.{content_divides}
 use Rattle.emp_line.specs.declared.cells.Cell.{Cell}
 use Rattle.emp_line.specs.declared.line.Line.{Line}
-use Rattle.emp_line.specs.Pivot.{Factors, sign, is_zero, turned, steps_wide, quotients, line_content}
+use Rattle.emp_line.specs.Pivot.{Factors, sign, turned, steps_wide, line_content}
 use Rattle.emp_line.specs.Sparse.{Sparse, spread, IsSparse, numbers, turned_cell, pairs, pairs_wide, sums, divided}
 use Rattle.emp_line.specs.Place.{IsSmall, IsSmallLine, moved_wide}
 use Rattle.emp_line.proofs.Joins.{line_eq, sign_self}

@@ -6,7 +6,7 @@ use lib.IntN.{*ℤ-one}
 use Rattle.std.specs.List.{All}
 use Rattle.std.proofs.lemmas.Nat.Gcd.{dvd_trans, dvd_antisymm}
 use Rattle.std.proofs.lemmas.List.Elements.{All-head, All-tail}
-use Rattle.emp_algebra.specs.Vector.{cell}
+use Rattle.emp_algebra.specs.Vector.{cell, quotients}
 use Rattle.emp_num.specs.Gcd.{gcd_of, content_from, content_of}
 use Rattle.emp_num.proofs.Gcds.{quot_exact}
 use Rattle.emp_num.proofs.GcdLaws.{content_divides}
@@ -16,7 +16,7 @@ use Rattle.emp_num.proofs.Divisors.{IsGcd-gcd_of, gcd_of_is, gcd_of_zero}
 use Rattle.emp_line.specs.declared.cells.Cell.{Cell}
 use Rattle.emp_line.specs.Sparse.{no_cell, numbers}
 use Rattle.emp_line.specs.declared.line.Line.{Line}
-use Rattle.emp_line.specs.Pivot.{line_content, quotients, reduced}
+use Rattle.emp_line.specs.Pivot.{line_content, reduced}
 use Rattle.emp_line.specs.Lines.{IsLine}
 use Rattle.emp_line.proofs.Joins.{line_eq}
 use Rattle.emp_line.proofs.Sound.{common_positive, common_narrow}

@@ -7,7 +7,7 @@ use Rattle.std.proofs.lemmas.Int.{ints}
 use Rattle.std.proofs.Math.Nat.{div-le_self}
 use Rattle.std.proofs.lemmas.Nat.Gcd.{dvd_refl, dvd_trans, le_of_dvd}
 use Rattle.std.proofs.lemmas.List.Elements.{All-nil, All-cons, All-head, All-tail, All-set, All-get_or}
-use Rattle.emp_algebra.specs.Vector.{cell, scale, add_rows}
+use Rattle.emp_algebra.specs.Vector.{cell, scale, add_rows, quotients}
 use Rattle.emp_algebra.proofs.Laws.{mul_pos, one-*ℤ, neg_ℤ-*ℤ}
 use Rattle.emp_algebra.proofs.Vectors.{length-scale}
 use Rattle.emp_num.specs.Exact.{IsNarrow}
@@ -15,7 +15,7 @@ use Rattle.emp_num.specs.Gcd.{gcd_of, content_from, content_of}
 use Rattle.emp_num.proofs.Gcds.{quot_exact, positive_from_product}
 use Rattle.emp_num.proofs.Divisors.{IsGcd-gcd_of, gcd_of_zero}
 use Rattle.emp_line.specs.declared.line.Line.{Line}
-use Rattle.emp_line.specs.Pivot.{sign, is_wide, quotients, line_content, reduced, turned, Factors, factors, combined, step_wide, steps_wide, combination_wide}
+use Rattle.emp_line.specs.Pivot.{sign, is_wide, line_content, reduced, turned, Factors, factors, combined, step_wide, steps_wide, combination_wide}
 use Rattle.emp_line.specs.Lines.{IsLine}
 use Rattle.emp_line.proofs.Steps.{narrow_from, or_left, or_right}
 

@@ -2,7 +2,8 @@
 use Rattle.std.proofs.Common.{zero, suc, ◌^◌, ◌≡◌, ◌≢◌, ℤ, pos, negsuc, ◌+ℤ◌, ◌*ℤ◌, unsigned_abs, Bool, true, false, ◌||◌, refl, ap, ◌∙◌, le-leb, leb-false}
 use Rattle.std.proofs.lemmas.Bool.{lt-leb}
 use Rattle.emp_num.specs.Exact.{IsNarrow, IsWide}
-use Rattle.emp_line.specs.Pivot.{is_zero, is_wide, Factors, step_wide}
+use Rattle.emp_algebra.specs.Vector.{is_zero}
+use Rattle.emp_line.specs.Pivot.{is_wide, Factors, step_wide}
 
 pub wide_yes : (z : ℤ) → IsWide z → is_wide z ≡ true
 wide_yes z h = le-leb (2 ^ 126) (unsigned_abs z) h

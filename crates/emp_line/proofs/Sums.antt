@@ -3,10 +3,10 @@ use Rattle.std.proofs.Common.{◌≡◌, ◌≢◌, ◌⊎◌, inl, inr, ℕ, ze
 use Rattle.std.specs.Prelude.{nat_eq, nat_lt}
 use Rattle.std.proofs.lemmas.Bool.{lt-ltb, le-ltb, eq-eqb, cases_eq, ne_eqb}
 use lib.IntN.{*ℤ-zero}
-use Rattle.emp_algebra.specs.Vector.{scale, add_rows}
+use Rattle.emp_algebra.specs.Vector.{scale, add_rows, is_zero}
 use Rattle.emp_line.specs.declared.cells.Cell.{Cell}
 use Rattle.emp_line.specs.declared.pairs.Pair.{Pair}
-use Rattle.emp_line.specs.Pivot.{Factors, is_zero, is_wide, step_wide, steps_wide}
+use Rattle.emp_line.specs.Pivot.{Factors, is_wide, step_wide, steps_wide}
 use Rattle.emp_line.specs.Sparse.{spread, IsSparse, patched, struck, first_alone, second_alone, both_cells, seconds, joined, pairs, pairs_wide, kept, sums}
 use Rattle.emp_line.proofs.Exchange.{is_zero-true}
 use Rattle.emp_line.proofs.Spread.{number_at, past, spread_more, spread_later, spread_here, sparse_from, sparse_empty, sparse_past, step_end}

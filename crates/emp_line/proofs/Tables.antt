@@ -1,12 +1,12 @@
 -- Lines with an index by columns.
 use Rattle.std.proofs.Common.{◌≡◌, ◌≢◌, ◌⊎◌, inl, inr, ℕ, zero, suc, ◌+◌, ◌<◌, ◌≤◌, ℤ, pos, negsuc, neg_ℤ, ◌*ℤ◌, ◌<ℤ◌, Bool, true, false, cond, List, [], ◌∷◌, ◌++◌, length, get_or, set, drop, replicate, Some, arith, refl, ap, sym, subst, ◌∙◌, append_assoc, to_z-of_z, below_more, length-set, get_or-set_same, get_or-set_other}
-use Rattle.emp_algebra.specs.Vector.{cell, scale}
+use Rattle.emp_algebra.specs.Vector.{cell, scale, is_zero}
 use Rattle.emp_line.specs.declared.cells.Cell.{Cell}
 use Rattle.emp_line.specs.declared.line.Line.{Line}
 use lib.IntN.{*ℤ-zero}
 use Rattle.std.proofs.lemmas.Int.{ints}
 use Rattle.emp_algebra.proofs.Vectors.{length-scale, cell-scale}
-use Rattle.emp_line.specs.Pivot.{is_zero, moved, no_line, sign, turned}
+use Rattle.emp_line.specs.Pivot.{moved, no_line, sign, turned}
 use Rattle.emp_line.proofs.Exchange.{is_zero-true, length-turned}
 use Rattle.emp_line.proofs.Steps.{zero_no}
 use Rattle.emp_line.specs.Sparse.{no_cell, IsSparse}

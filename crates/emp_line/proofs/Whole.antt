@@ -3,9 +3,9 @@ use Rattle.std.proofs.Common.{◌≡◌, ◌≢◌, ℕ, zero, suc, ◌+◌, ◌
 use Rattle.std.specs.Prelude.{nat_eq}
 use Rattle.std.proofs.lemmas.Bool.{eqb-true, eq-eqb}
 use Rattle.std.proofs.lemmas.List.{drop_more, drop_all, get_or_default}
-use Rattle.emp_algebra.specs.Vector.{cell}
+use Rattle.emp_algebra.specs.Vector.{cell, is_zero}
 use Rattle.emp_line.specs.declared.line.Line.{Line}
-use Rattle.emp_line.specs.Pivot.{is_zero, factors, reduced, combined, combination_wide, moved, both_there, pivoted_from, no_line}
+use Rattle.emp_line.specs.Pivot.{factors, reduced, combined, combination_wide, moved, both_there, pivoted_from, no_line}
 use Rattle.emp_line.specs.Lines.{line_after}
 use Rattle.emp_line.proofs.Moves.{pivoted_from_is}
 use Rattle.emp_line.specs.Place.{is_none, moved_wide}

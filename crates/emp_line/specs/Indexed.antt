@@ -1,8 +1,8 @@
 -- The index of lines by columns.
 use Rattle.std.specs.Prelude.{◌≡◌, ◌≢◌, ℕ, ◌<◌, Bool, true, false, cond, List, [], length, slice_index_or}
-use Rattle.emp_algebra.specs.Vector.{cell}
+use Rattle.emp_algebra.specs.Vector.{cell, is_zero}
 use Rattle.emp_line.specs.declared.line.Line.{Line}
-use Rattle.emp_line.specs.Pivot.{is_zero, no_line}
+use Rattle.emp_line.specs.Pivot.{no_line}
 
 -- the line has a cell other than 0 in column k
 abbrev pub has_cell : Line → ℕ → Bool

@@ -1,7 +1,7 @@
 -- Lines of a dictionary and their exchange, in whole numbers without bound.
 -- A line says `denom * v = constant + sum of cells * w`, where v is the line's own quantity and the w are those of the columns.
-use Rattle.std.specs.Prelude.{ℕ, zero, suc, ◌+◌, ◌^◌, ℤ, pos, negsuc, neg_ℤ, ◌+ℤ◌, ◌*ℤ◌, Bool, true, false, cond, ◌||◌, nat_le, List, [], ◌∷◌, Option, Some, None, slice_set, slice_index_or, unsigned_abs, int_div, nat_eq}
-use Rattle.emp_algebra.specs.Vector.{cell, scale, add_rows}
+use Rattle.std.specs.Prelude.{ℕ, zero, suc, ◌+◌, ◌^◌, ℤ, pos, negsuc, neg_ℤ, ◌+ℤ◌, ◌*ℤ◌, Bool, false, cond, ◌||◌, nat_le, List, [], ◌∷◌, Option, Some, None, slice_set, slice_index_or, unsigned_abs, int_div, nat_eq}
+use Rattle.emp_algebra.specs.Vector.{cell, scale, add_rows, is_zero, quotients}
 use Rattle.emp_num.specs.Gcd.{gcd_of, content_of}
 use Rattle.emp_line.specs.declared.line.Line.{Line}
 
@@ -10,18 +10,9 @@ sign (pos zero) = pos 0
 sign (pos (suc n)) = pos 1
 sign (negsuc n) = negsuc 0
 
-abbrev pub is_zero : ℤ → Bool
-is_zero (pos zero) = true
-is_zero (pos (suc n)) = false
-is_zero (negsuc n) = false
-
 -- absolute value 2^126 or more
 abbrev pub is_wide : ℤ → Bool
 is_wide z = nat_le (2 ^ 126) (unsigned_abs z)
-
-abbrev pub quotients : List ℤ → ℤ → List ℤ
-quotients [] g = []
-quotients (z ∷ zs) g = (int_div z g) ∷ quotients zs g
 
 -- the line divided by what all its numbers have in common
 abbrev pub line_content : Line → ℤ

@@ -1,10 +1,10 @@
 -- What the steps of a pivot in place keep and give.
 use Rattle.std.specs.Prelude.{◌||◌, nat_eq, [], slice_index_or, ◌+◌, ◌≤◌, ◌∷◌, drop, length, cond, int_div, ◌≡◌, ℕ, ◌<◌, ◌^◌, ℤ, ◌+ℤ◌, ◌*ℤ◌, Bool, true, false, List, Option, Some, None, Result, Ok, Err, unsigned_abs}
 use Rattle.std.specs.List.{All}
-use Rattle.emp_algebra.specs.Vector.{cell}
+use Rattle.emp_algebra.specs.Vector.{cell, quotients, is_zero}
 use Rattle.emp_num.specs.declared.exact.Wide.{Wide}
 use Rattle.emp_line.specs.declared.line.Line.{Line}
-use Rattle.emp_line.specs.Pivot.{quotients, Factors, factors, is_zero, step_wide, combination_wide}
+use Rattle.emp_line.specs.Pivot.{Factors, factors, step_wide, combination_wide}
 use Rattle.emp_line.specs.declared.step.Multipliers.{Multipliers}
 use Rattle.emp_line.specs.declared.cells.Cell.{Cell}
 use Rattle.emp_line.specs.declared.pairs.Next.{Next}

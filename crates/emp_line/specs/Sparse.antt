@@ -2,7 +2,8 @@
 use Rattle.std.specs.Prelude.{◌≢◌, ℕ, zero, suc, ◌+◌, ◌<◌, ◌≤◌, ℤ, pos, neg_ℤ, ◌+ℤ◌, ◌*ℤ◌, Bool, false, cond, ◌||◌, nat_eq, nat_lt, List, [], ◌∷◌, int_div}
 use Rattle.emp_line.specs.declared.cells.Cell.{Cell}
 use Rattle.emp_line.specs.declared.pairs.Pair.{Pair}
-use Rattle.emp_line.specs.Pivot.{Factors, sign, is_zero, step_wide}
+use Rattle.emp_algebra.specs.Vector.{is_zero}
+use Rattle.emp_line.specs.Pivot.{Factors, sign, step_wide}
 
 -- the cells that are not 0 of a line with so many columns
 pub record Sparse : Type 0 where

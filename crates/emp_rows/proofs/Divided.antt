@@ -7,7 +7,7 @@ use Rattle.std.specs.List.{All}
 use Rattle.std.proofs.lemmas.Int.{ints}
 use Rattle.std.proofs.lemmas.Nat.Gcd.{dvd_refl, dvd_trans}
 use Rattle.std.proofs.lemmas.List.Elements.{All-nil, All-cons, All-head, All-tail}
-use Rattle.emp_algebra.specs.Vector.{dot}
+use Rattle.emp_algebra.specs.Vector.{dot, quotients}
 use Rattle.emp_algebra.proofs.Order.{cancel_right}
 use Rattle.emp_algebra.proofs.Ring.{var, ◌⊕◌, ◌⊗◌, by_ring}
 use Rattle.emp_num.specs.Exact.{IsNarrow}
@@ -15,7 +15,6 @@ use Rattle.emp_num.specs.Gcd.{gcd_of, content_from, content_of}
 use Rattle.emp_num.proofs.Gcds.{gcd_below, quot_exact}
 use Rattle.emp_num.proofs.Divisors.{IsGcd-gcd_of}
 use Rattle.emp_rows.specs.Affine.{IsRow, value_times, divisor_of, primitive_of}
-use Rattle.emp_rows.specs.Quotients.{quotients}
 use Rattle.emp_rows.proofs.Quotients.{quotient_narrow}
 
 pub if_ok_weaker : {X E : Type 0} (r : Result X E) (P Q : X → Type 0) → ((x : X) → P x → Q x) → IfOk r P → IfOk r Q

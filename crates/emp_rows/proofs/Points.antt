@@ -3,7 +3,7 @@ use Rattle.std.proofs.Common.{◌≡◌, ◌⊎◌, inl, inr, ℕ, zero, suc, �
 use Rattle.std.proofs.lemmas.Int.{ints}
 use Rattle.std.proofs.lemmas.List.Elements.{All-head, All-tail}
 use Rattle.emp_algebra.specs.Deciding.{IsOfKind}
-use Rattle.emp_algebra.specs.Vector.{cell, dot}
+use Rattle.emp_algebra.specs.Vector.{cell, dot, is_zero}
 use Rattle.emp_algebra.proofs.Laws.{mul_pos, mul_nonneg}
 use Rattle.emp_algebra.proofs.Order.{linear, mul_lt_right, le_cancel_right, cancel_right, le_or_lt}
 use Rattle.emp_algebra.proofs.Ring.{var, lit, ◌⊕◌, ◌⊗◌, by_ring}
@@ -20,7 +20,7 @@ use Rattle.emp_rows.specs.declared.system.RowSystem.{RowSystem}
 use Rattle.emp_rows.specs.RowPoints.{sort_of, quantity, value_at, rate_along, AreOfKind, OneVanishes}
 use Rattle.emp_rows.specs.Holding.{FitsAt, IsFirstWide}
 use Rattle.emp_rows.specs.Points.{IsNumber}
-use Rattle.emp_rows.specs.Values.{is_narrow, is_zero, is_negative, ratio_of, checked_term, adds_narrow, checked_plus, valued_step, valued, measured, both, kind_holds, kinds_hold, zero_or, pair_holds, pairs_hold}
+use Rattle.emp_rows.specs.Values.{is_narrow, is_negative, ratio_of, checked_term, adds_narrow, checked_plus, valued_step, valued, measured, both, kind_holds, kinds_hold, zero_or, pair_holds, pairs_hold}
 
 -- v is X over d
 pub record IsOver (v : Ratio) (X d : ℤ) : Type 0 where

@@ -1,7 +1,7 @@
 -- Quotients of rows.
 use Rattle.std.proofs.Common.{ℕ, ◌+◌, ◌<◌, ◌≤◌, ◌≡◌, ℤ, pos, List, [], ◌∷◌, ◌++◌, take, get_or, length, int_div, refl, ap, sym, ◌∙◌, to_z-of_z}
 use Rattle.std.proofs.lemmas.List.{take_more, take_all}
-use Rattle.emp_rows.specs.Quotients.{quotients}
+use Rattle.emp_algebra.specs.Vector.{quotients}
 
 pub quotients-append : (r s : List ℤ) (g : ℤ) → quotients (r ++ s) g ≡ quotients r g ++ quotients s g
 quotients-append [] s g = refl

@@ -10,7 +10,8 @@ use Rattle.emp_rows.specs.declared.system.Kind.{Kind}
 use Rattle.emp_rows.specs.declared.system.Kind.TheVariants.{Zero}
 use Rattle.emp_rows.specs.declared.system.RowSystem.{RowSystem}
 use Rattle.emp_rows.specs.RowPoints.{no_row}
-use Rattle.emp_rows.specs.Values.{is_narrow, is_zero, is_negative, measured, both, kind_holds, kinds_hold, pair_holds, pairs_hold}
+use Rattle.emp_algebra.specs.Vector.{is_zero}
+use Rattle.emp_rows.specs.Values.{is_narrow, is_negative, measured, both, kind_holds, kinds_hold, pair_holds, pairs_hold}
 
 pub narrow_true : (z : ℤ) → IsNarrow z → is_narrow z ≡ true
 narrow_true z h = lt-ltb (unsigned_abs z) (2 ^ 126) h

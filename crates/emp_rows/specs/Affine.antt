@@ -1,10 +1,9 @@
 -- Affine quantities with whole numbers, and their values at a point.
 use Rattle.std.specs.Prelude.{◌≡◌, ℕ, zero, suc, ℤ, pos, ◌+ℤ◌, ◌*ℤ◌, List, ◌∷◌, All, length, int_div}
-use Rattle.emp_algebra.specs.Vector.{dot}
+use Rattle.emp_algebra.specs.Vector.{dot, quotients}
 use Rattle.emp_num.specs.Exact.{IsNarrow}
 use Rattle.emp_num.specs.Gcd.{content_of}
 use Rattle.emp_rows.specs.declared.affine.Affine.{Affine}
-use Rattle.emp_rows.specs.Quotients.{quotients}
 
 -- d times the value at the point with the numbers xs over d
 abbrev pub value_times : Affine → ℤ → List ℤ → ℤ

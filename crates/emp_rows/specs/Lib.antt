@@ -1,5 +1,4 @@
 -- What a caller relies on
-pub mod Quotients
 pub mod Systems
 pub mod Affine
 pub mod RowPoints

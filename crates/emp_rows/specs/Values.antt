@@ -1,6 +1,7 @@
 -- Values of quantities at points that are lists of fractions, where each number that is formed is tested.
 -- A value is none where one of its numbers is wide.
 use Rattle.std.specs.Prelude.{ℕ, zero, suc, ◌^◌, Bool, true, false, cond, ◌&&◌, nat_lt, ℤ, pos, negsuc, ◌+ℤ◌, ◌*ℤ◌, unsigned_abs, List, [], ◌∷◌, Option, Some, None, option_and_then, Result, Ok, Err}
+use Rattle.emp_algebra.specs.Vector.{is_zero}
 use Rattle.emp_num.specs.declared.exact.Wide.{Wide as WideNumber}
 use Rattle.emp_num.specs.declared.frac.Frac.{Frac}
 use Rattle.emp_num.specs.Ratio.{Ratio, ratio}
@@ -13,11 +14,6 @@ use Rattle.emp_rows.specs.RowPoints.{quantity}
 
 abbrev pub is_narrow : ℤ → Bool
 is_narrow z = nat_lt (unsigned_abs z) (2 ^ 126)
-
-abbrev pub is_zero : ℤ → Bool
-is_zero (pos zero) = true
-is_zero (pos (suc n)) = false
-is_zero (negsuc n) = false
 
 abbrev pub is_negative : ℤ → Bool
 is_negative (pos n) = false

@@ -2,7 +2,7 @@
 ghost use Rattle.std.specs.Prelude.{◌≡◌, ◌<◌, ◌^◌, ◌<ℤ◌, ℤ, pos, int_div, unsigned_abs, IfOk};
 ghost use Rattle.emp_num.specs.Exact.{IsNarrow};
 ghost use Rattle.emp_num.specs.Gcd.{gcd_of};
-ghost use Rattle.emp_rows.specs.Quotients.{quotients};
+ghost use Rattle.emp_algebra.specs.Vector.{quotients};
 
 use emp_list::seq::Seq;
 use emp_num::exact::common_divisor;

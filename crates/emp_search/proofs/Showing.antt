@@ -7,7 +7,7 @@ use Rattle.emp_algebra.proofs.Ring.{var, ◌⊗◌, by_ring}
 use Rattle.emp_algebra.proofs.Order.{linear, le_cancel_right, mul_le_right}
 use Rattle.emp_num.specs.Point.{Point, StandsFor}
 use Rattle.emp_num.specs.declared.frac.Frac.{Frac}
-use Rattle.emp_line.specs.Pivot.{is_zero}
+use Rattle.emp_algebra.specs.Vector.{is_zero}
 use Rattle.emp_rows.specs.declared.affine.Affine.{Affine}
 use Rattle.emp_rows.specs.declared.system.RowSystem.{RowSystem}
 use Rattle.emp_rows.specs.Systems.{IsMember}

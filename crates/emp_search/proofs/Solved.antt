@@ -7,9 +7,8 @@ use Rattle.std.proofs.lemmas.Int.{ints}
 use Rattle.emp_algebra.proofs.Ring.{var, lit, ◌⊕◌, ◌⊗◌, by_ring}
 use Rattle.emp_algebra.proofs.Order.{linear, cancel_right, le_cancel_right, mul_lt_right}
 use Rattle.emp_algebra.proofs.Laws.{mul_nonneg}
-use Rattle.emp_algebra.specs.Vector.{dot}
+use Rattle.emp_algebra.specs.Vector.{dot, is_zero}
 use Rattle.emp_algebra.specs.Deciding.{IsOfKind}
-use Rattle.emp_line.specs.Pivot.{is_zero}
 use Rattle.emp_line.proofs.Exchange.{is_zero-true}
 use Rattle.emp_num.specs.Point.{Point, StandsFor}
 use Rattle.emp_num.specs.declared.frac.Frac.{Frac}

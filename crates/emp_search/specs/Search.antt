@@ -2,7 +2,7 @@
 -- Without an objective it ends at the first point, or where no node is left. With one it goes on with the best point so far, the incumbent, until no
 -- node is left, or ends at a ray. What it writes is the tree of a certificate, in preorder.
 use Rattle.std.specs.Prelude.{ℕ, zero, suc, ◌+◌, ◌-◌, ◌*ℤ◌, ◌-ℤ◌, Bool, false, cond, ◌&&◌, ◌||◌, not, List, [], ◌∷◌, ◌++◌, length, Option, Some, None}
-use Rattle.emp_line.specs.Pivot.{is_zero}
+use Rattle.emp_algebra.specs.Vector.{is_zero}
 use Rattle.emp_rows.specs.declared.affine.Affine.{Affine}
 use Rattle.emp_rows.specs.declared.system.Kind.{Kind}
 use Rattle.emp_rows.specs.declared.system.Kind.TheVariants.{Zero, Nonneg}

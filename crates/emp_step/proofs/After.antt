@@ -2,7 +2,8 @@
 use Rattle.std.proofs.Common.{◌≡◌, ◌≢◌, ℕ, ◌-◌, ◌<◌, pos, cond, List, length, get_or, set, Option, Some, None, arith, refl, sym, ap, ◌∙◌}
 use Rattle.std.proofs.lemmas.List.{get_or-set_same, get_or-set_other, length-set}
 use Rattle.emp_line.specs.declared.line.Line.{Line}
-use Rattle.emp_line.specs.Pivot.{is_zero, turned, moved, factors, combined, combination_wide, reduced, pivoted}
+use Rattle.emp_algebra.specs.Vector.{is_zero}
+use Rattle.emp_line.specs.Pivot.{turned, moved, factors, combined, combination_wide, reduced, pivoted}
 use Rattle.emp_line.proofs.Moves.{Pivots, pivoted_from_is}
 use Rattle.emp_dict.specs.declared.label.Label.TheVariants.{Objective}
 use Rattle.emp_dict.specs.declared.label.Mark.TheVariants.{Unasked}

@@ -3,7 +3,7 @@ use Rattle.std.proofs.Common.{◌≡◌, ◌≢◌, ℕ, zero, suc, ◌-◌, ◌
 use Rattle.std.proofs.lemmas.Int.{ints}
 use Rattle.std.proofs.lemmas.Bool.{and_cases, cases_eq}
 use Rattle.std.proofs.lemmas.List.{get_or-set_same, get_or-set_other}
-use Rattle.emp_line.specs.Pivot.{is_zero}
+use Rattle.emp_algebra.specs.Vector.{is_zero}
 use Rattle.emp_dict.specs.declared.label.Label.{Label}
 use Rattle.emp_dict.specs.declared.label.Label.TheVariants.{Base, Quantity, Objective}
 use Rattle.emp_dict.specs.declared.label.Mark.{Mark}

@@ -1,7 +1,7 @@
 -- The turns of the three steps: their pivots can be made, and keep what a step keeps.
 use Rattle.std.proofs.Common.{◌≡◌, ◌≢◌, ℕ, zero, suc, ◌+◌, ◌<◌, ◌⊎◌, inl, inr, pos, ◌*ℤ◌, ◌≤ℤ◌, ◌<ℤ◌, Bool, true, false, cond, not, nat_lt, length, Option, Some, None, arith, refl, sym, ap, ap₂, subst, ◌∙◌}
 use Rattle.std.proofs.lemmas.Bool.{and_parts, cases_eq, both_ways}
-use Rattle.emp_line.specs.Pivot.{is_zero}
+use Rattle.emp_algebra.specs.Vector.{is_zero}
 use Rattle.emp_turns.specs.Choice.{Way, toward, MayMove, Required as required, IsFeasible, IsLevel as IsTurnLevel, IsExchange}
 use Rattle.emp_turns.specs.Layout.{table_of}
 use Rattle.emp_turns.proofs.Laws as TurnLaws

@@ -2,7 +2,7 @@
 -- A step looks at the dictionary, makes the pivot that the look names, and looks again until it is over. Each pivot takes one unit of work, and
 -- where none is left the step is spent.
 use Rattle.std.specs.Prelude.{◌≡◌, ℕ, zero, suc, ℤ, pos, negsuc, Bool, true, false, cond, ◌&&◌, not, nat_lt, length, Option, Some, None, Result, Ok, Err}
-use Rattle.emp_line.specs.Pivot.{is_zero}
+use Rattle.emp_algebra.specs.Vector.{is_zero}
 use Rattle.emp_dict.specs.declared.label.Label.{Label}
 use Rattle.emp_dict.specs.declared.label.Label.TheVariants.{Base, Quantity, Objective}
 use Rattle.emp_dict.specs.declared.label.Mark.{Mark}

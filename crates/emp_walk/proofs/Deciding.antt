@@ -14,7 +14,7 @@ use Rattle.emp_algebra.proofs.Laws.{mul_pos}
 use Rattle.emp_num.specs.Orders.{IsOrder}
 use Rattle.emp_num.specs.FracSpec.{IsQuotient}
 use Rattle.emp_num.specs.declared.frac.Frac.{Frac}
-use Rattle.emp_line.specs.Pivot.{is_zero}
+use Rattle.emp_algebra.specs.Vector.{is_zero}
 use Rattle.emp_rows.specs.declared.system.Kind.TheVariants.{Zero}
 use Rattle.emp_rows.specs.declared.system.RowSystem.{RowSystem}
 use Rattle.emp_rows.specs.Systems.{IsMember}

@@ -1,5 +1,5 @@
 use Rattle.std.proofs.Common.{◌≡◌, pos, take}
-use Rattle.emp_rows.specs.Quotients.{quotients}
+use Rattle.emp_algebra.specs.Vector.{quotients}
 use Rattle.emp_rows.proofs.reduce.quotients.Given as goal
 
 abbrev pub invariant-loop-k : goal.invariant-loop-k

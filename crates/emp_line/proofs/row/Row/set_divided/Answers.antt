@@ -2,7 +2,7 @@ use Rattle.std.proofs.Common.{◌≡◌, ◌∙◌, pos, map, length, int_div, a
 use mir.Syntax.{w128}
 use mir.Val.{SFits}
 use Rattle.emp_line.specs.declared.line.Line.{Line}
-use Rattle.emp_line.specs.Pivot.{quotients}
+use Rattle.emp_algebra.specs.Vector.{quotients}
 use Rattle.emp_line.specs.Sparse.{Sparse, IsSparse, spread, divided}
 use Rattle.emp_line.proofs.Joins.{line_eq}
 use Rattle.emp_line.proofs.Rows.{IsRow, row_is, row_as, row_room, quotient_cells, quotient_sparse}
