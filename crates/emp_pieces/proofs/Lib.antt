@@ -1,0 +1,4 @@
+pub mod Enough
+pub mod Opening
+pub mod Walking
+pub mod Listing

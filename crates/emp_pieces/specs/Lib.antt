@@ -1,0 +1,3 @@
+-- What a caller relies on
+pub mod Walks
+pub mod Lists
