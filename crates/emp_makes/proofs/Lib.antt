@@ -3,3 +3,4 @@ pub mod Files
 pub mod Deciding
 pub mod Summing
 pub mod Ends
+pub mod OneSummary

@@ -8,7 +8,7 @@ use Rattle.emp_ast.specs.Equilibrium.{IsEquilibrium}
 use Rattle.emp_command.specs.Words.{Asked}
 use Rattle.emp_command.specs.Course.{Outcome, AreFirmsInRange}
 use Rattle.emp_make.specs.Markets.{IsMarket}
-use Rattle.emp_makes.specs.Makes.{OutputGives, ProfitGives, summary, Saves, Makes}
+use Rattle.emp_makes.specs.Makes.{OutputGives, ProfitGives, summary, Saves, SumsUp, Makes}
 
 -- a market is summed up, or a number is wide, or the work is spent
 abbrev pub MakesEnd : Type 0
@@ -32,3 +32,7 @@ pub record ShowsSums (r : Asked) (o : Outcome) : Type 0 where
 
 abbrev pub MadeShows : Type 0
 MadeShows = (r : Asked) (o : Outcome) → Makes r o → o.status ≡ 0 → ShowsSums r o
+
+-- a model and an annotation are summed up in one way: one status, one list of texts that are stored, and one text that is said
+abbrev pub OneSummary : Type 0
+OneSummary = (m : Model) (a : Annot) (r : Asked) (o p : Outcome) → SumsUp m a r o → SumsUp m a r p → o ≡ p
