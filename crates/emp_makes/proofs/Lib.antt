@@ -4,3 +4,5 @@ pub mod Deciding
 pub mod Summing
 pub mod Ends
 pub mod OneSummary
+pub mod Places
+pub mod OneMake
