@@ -82,12 +82,12 @@ state_above StateWords.TooLarge k = omega (arith, k)
 state_above (StateWords.WideRow j) k = omega (arith, k)
 state_above StateWords.NoMemory k = omega (arith, k)
 
-walk_above : (f : WalkFault) → walk_status f ≡ 0 → ⊥
+pub walk_above : (f : WalkFault) → walk_status f ≡ 0 → ⊥
 walk_above (WalkWords.Wide node pivot) e = omega (arith, e)
 walk_above (WalkWords.Spent limit) e = omega (arith, e)
 walk_above WalkWords.NoMemory e = omega (arith, e)
 
-refusal_above : (m : Model) (a : Annot) (o : Outcome) → Refuses m a o → o.status ≡ 0 → ⊥
+pub refusal_above : (m : Model) (a : Annot) (o : Outcome) → Refuses m a o → o.status ≡ 0 → ⊥
 refusal_above m a o (bad_owner f n b) e = omega (arith, e)
 refusal_above m a o (unstated f n k g) e = state_above f e
 
