@@ -49,7 +49,7 @@ def examples():
             for file in (stem + ".gms", stem + ".info"):
                 with open(os.path.join(EXAMPLES, file), encoding="utf-8") as it:
                     texts.append(it.read())
-            pairs[stem] = (*texts, {"clash": 1, "grant": 2}.get(stem, 0))
+            pairs[stem] = (*texts, {"clash": 1, "grant": 2, "shortage": 1}.get(stem, 0))
     return pairs
 
 
